@@ -1,0 +1,110 @@
+-- Polynomials modulo 257: a polynomial of n coefficients, not all 0, has fewer than n roots.
+-- Numbers are natural numbers, so a difference is written as an exact equation of two sums.
+use mathlib.Core.Bool.{Bool, true, false, _&&_, _||_}
+use mathlib.Core.Logic.{_≢_, _⊎_, inl, inr}
+use mathlib.Core.Path.{_≡_, refl, sym, ap, _∙_, subst}
+use Prim.Native.Nat.{ℕ, zero, suc, _+_, _-_, _*_, _/_, _%_, _<_, _≤_}
+use native.Mathlib.Nat.{mul-zero, add-suc, add-zero, mul-suc, div-add-mod, mod-lt, le-of-suc-le-suc, not-suc-le-zero, eq-or-lt-of-le, eq-zero-or-pos}
+use native.Mathlib.Decide.{decLt}
+use native.Mathlib.Omega.{arith}
+use lib.Dec.{T, eqb, eqb→eq}
+use Rattle.simd.specs.Basic.{sum}
+use Rattle.simd.specs.Expansion.{power}
+
+-- A rule of the numbers below n, tested at all of them by one computation.
+abbrev pub below : ℕ → (ℕ → Bool) → Bool
+below zero p = true
+below (suc n) p = p n && below n p
+
+both : (a b : Bool) → T (a && b) → T a × T b
+both true b t = (tt, t)
+both false b t = absurd t
+
+pub below-at : (n : ℕ) (p : ℕ → Bool) → T (below n p) → (i : ℕ) → i < n → T (p i)
+below-at zero p t i h = absurd (not-suc-le-zero h)
+below-at (suc n) p t i h =
+    let b = both (p n) (below n p) t in
+    elim (eq-or-lt-of-le (le-of-suc-le-suc h)) [ inl e ↦ subst (λ k. T (p k)) (sym e) (b .0) | inr l ↦ below-at n p (b .1) i l ]
+
+-- The polynomial c 0 + c 1 x + .. + c (n - 1) x^(n - 1).
+pub eval : ℕ → (ℕ → ℕ) → ℕ → ℕ
+eval zero c x = 0
+eval (suc n) c x = c 0 + x * eval n (λ j. c (suc j)) x
+
+-- The quotient of a polynomial of n coefficients by x - a.
+quotient : ℕ → (ℕ → ℕ) → ℕ → ℕ → ℕ
+quotient zero c a k = 0
+quotient (suc n) c a zero = eval n (λ j. c (suc j)) a
+quotient (suc n) c a (suc k) = quotient n (λ j. c (suc j)) a k
+
+-- p(x) - p(a) = (x - a) q(x).
+factor : (n : ℕ) (c : ℕ → ℕ) (a x : ℕ)
+    → eval (suc n) c x + a * eval n (quotient (suc n) c a) x ≡ eval (suc n) c a + x * eval n (quotient (suc n) c a) x
+unfolding eval quotient
+factor zero c a x = omega arith
+factor (suc n) c a x = omega (arith, ap (λ v. x * v) (factor n (λ j. c (suc j)) a x))
+
+multiple : (a v : ℕ) → v % 257 ≡ 0 → a * v % 257 ≡ 0
+multiple a v z =
+    let e : v ≡ 257 * (v / 257) = omega arith in
+    omega (arith, ap (λ u. a * u) e)
+
+-- Where the quotient by x - a is 0 and a is a root, all coefficients are 0.
+from-quotient : (n : ℕ) (c : ℕ → ℕ) (a : ℕ) → ((k : ℕ) → k < n → quotient (suc n) c a k % 257 ≡ 0) → eval (suc n) c a % 257 ≡ 0
+    → (k : ℕ) → k < suc n → c k % 257 ≡ 0
+unfolding eval quotient
+from-quotient zero c a q r zero h = omega (arith, r)
+from-quotient zero c a q r (suc k) h = omega arith
+from-quotient (suc n) c a q r zero h = omega (arith, r, multiple a (eval (suc n) (λ j. c (suc j)) a) (q 0 (omega arith)))
+from-quotient (suc n) c a q r (suc k) h =
+    from-quotient n (λ j. c (suc j)) a (λ i l. q (suc i) (omega arith)) (q 0 (omega arith)) k (le-of-suc-le-suc h)
+
+-- 257 is prime: each of 1 to 256 has an inverse, its 255th power.
+hasInverse : ℕ → Bool
+hasInverse k = eqb (suc k * power (suc k) 255 % 257) 1
+
+inverses : T (below 256 hasInverse)
+unfolding hasInverse power
+inverses = tt
+
+no-zero-divisor : (u v : ℕ) → u < 256 → suc u * v % 257 ≡ 0 → v % 257 ≡ 0
+unfolding hasInverse
+no-zero-divisor u v h z =
+    let w : ℕ = power (suc u) 255 in
+    let one : suc u * w % 257 ≡ 1 = eqb→eq (suc u * w % 257) 1 (below-at 256 hasInverse inverses u h) in
+    let k : ℕ = suc u * w / 257 in
+    let inverse : suc u * w ≡ 257 * k + 1 = omega arith in
+    let vanishes : suc u * v ≡ 257 * (suc u * v / 257) = omega arith in
+    omega (arith, ap (λ s. s * v) inverse, ap (λ s. w * s) vanishes)
+
+-- Two different residues do not agree on a multiple of v unless v is 0.
+cancel : (a x v : ℕ) → a < 257 → x < 257 → a ≢ x → a * v % 257 ≡ x * v % 257 → v % 257 ≡ 0
+cancel a x v ha hx d e = elim (decLt a x) [ yes l ↦ up a x l hx e | no l ↦ up x a (omega (arith, d, l)) ha (sym e) ]
+  where
+    up : (a x : ℕ) → a < x → x < 257 → a * v % 257 ≡ x * v % 257 → v % 257 ≡ 0
+    up a x l h e =
+        let split : x ≡ a + suc (x - suc a) = omega arith in
+        no-zero-divisor (x - suc a) v (omega arith) (omega (arith, e, ap (λ s. s * v) split))
+
+-- A polynomial of n coefficients that is 0 at n of N different points has only coefficients that are 0.
+-- g says where it may differ from 0: its sum over the points is at least the number of points that are no roots.
+pub few-roots : (N : ℕ) (x : ℕ → ℕ) → ((i : ℕ) → i < N → x i < 257) → ((i j : ℕ) → i < j → j < N → x i ≢ x j)
+    → (n : ℕ) (c g : ℕ → ℕ) → ((i : ℕ) → i < N → g i ≡ 0 → eval n c (x i) % 257 ≡ 0) → sum N g + n ≤ N
+    → (k : ℕ) → k < n → c k % 257 ≡ 0
+unfolding sum
+few-roots N x small apart zero c g roots count k h = absurd (not-suc-le-zero h)
+few-roots zero x small apart (suc n) c g roots count k h = omega arith
+few-roots (suc N) x small apart (suc n) c g roots count k h =
+    elim (eq-zero-or-pos (g N)) [
+      | inl z ↦
+          let root : eval (suc n) c (x N) % 257 ≡ 0 = roots N (omega arith) z in
+          let others : (i : ℕ) → i < N → g i ≡ 0 → eval n (quotient (suc n) c (x N)) (x i) % 257 ≡ 0 =
+          λ i l e.
+          let here : eval (suc n) c (x i) % 257 ≡ 0 = roots i (omega arith) e in
+          cancel (x N) (x i) (eval n (quotient (suc n) c (x N)) (x i)) (small N (omega arith)) (small i (omega arith))
+          (λ s. apart i N l (omega arith) (sym s)) (omega (arith, factor n c (x N) (x i))) in
+          from-quotient n c (x N)
+          (few-roots N x (λ i l. small i (omega arith)) (λ i j l m. apart i j l (omega arith)) n (quotient (suc n) c (x N)) g others (omega arith)) root k h
+      | inr p ↦
+          few-roots N x (λ i l. small i (omega arith)) (λ i j l m. apart i j l (omega arith)) (suc n) c g (λ i l. roots i (omega arith)) (omega arith) k h
+    ]
