@@ -1,4 +1,5 @@
 pub mod Table
 pub mod Sum
+pub mod Field
 pub mod Roots
 pub mod Regroup
