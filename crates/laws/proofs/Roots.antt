@@ -1,15 +1,19 @@
 -- Polynomials modulo 257: a polynomial of n coefficients, not all 0, has fewer than n roots.
 -- Numbers are natural numbers, so a difference is written as an exact equation of two sums.
-use mathlib.Core.Bool.{Bool, true, false, _&&_, _||_}
+use mathlib.Core.Bool.{Bool, true, false, not, _&&_}
 use mathlib.Core.Logic.{_≢_, _⊎_, inl, inr}
 use mathlib.Core.Path.{_≡_, refl, sym, ap, _∙_, subst}
 use Prim.Native.Nat.{ℕ, zero, suc, _+_, _-_, _*_, _/_, _%_, _<_, _≤_}
-use native.Mathlib.Nat.{mul-zero, add-suc, add-zero, mul-suc, div-add-mod, mod-lt, le-of-suc-le-suc, not-suc-le-zero, eq-or-lt-of-le, eq-zero-or-pos}
+use native.Mathlib.Nat.{mul-one, mul-left-comm, le-of-suc-le-suc, not-suc-le-zero, eq-or-lt-of-le, eq-zero-or-pos}
 use native.Mathlib.Decide.{decLt}
 use native.Mathlib.Omega.{arith}
-use lib.Dec.{T, eqb, eqb→eq}
-use Rattle.simd.specs.Basic.{sum}
+use lib.Dec.{T, T-not, eqb, eqb→eq, lit<}
+use Rattle.simd.specs.Basic.{Family, small, large, points, sum}
+use Rattle.simd.specs.Constants.{root}
 use Rattle.simd.specs.Expansion.{power}
+use Rattle.laws.proofs.Sum.{sum-scale}
+use Rattle.laws.proofs.Regroup.{sum-first}
+use Rattle.laws.proofs.Field.{Same, same-refl, same-of, same-sym, same-trans, same-mod, same-add, same-mul, same-eq, same-sum, power-lt, power-add}
 
 -- A rule of the numbers below n, tested at all of them by one computation.
 abbrev pub below : ℕ → (ℕ → Bool) → Bool
@@ -92,19 +96,62 @@ pub few-roots : (N : ℕ) (x : ℕ → ℕ) → ((i : ℕ) → i < N → x i < 2
     → (n : ℕ) (c g : ℕ → ℕ) → ((i : ℕ) → i < N → g i ≡ 0 → eval n c (x i) % 257 ≡ 0) → sum N g + n ≤ N
     → (k : ℕ) → k < n → c k % 257 ≡ 0
 unfolding sum
-few-roots N x small apart zero c g roots count k h = absurd (not-suc-le-zero h)
-few-roots zero x small apart (suc n) c g roots count k h = omega arith
-few-roots (suc N) x small apart (suc n) c g roots count k h =
+few-roots N x bound differ zero c g roots count k h = absurd (not-suc-le-zero h)
+few-roots zero x bound differ (suc n) c g roots count k h = omega arith
+few-roots (suc N) x bound differ (suc n) c g roots count k h =
     elim (eq-zero-or-pos (g N)) [
       | inl z ↦
           let root : eval (suc n) c (x N) % 257 ≡ 0 = roots N (omega arith) z in
           let others : (i : ℕ) → i < N → g i ≡ 0 → eval n (quotient (suc n) c (x N)) (x i) % 257 ≡ 0 =
           λ i l e.
           let here : eval (suc n) c (x i) % 257 ≡ 0 = roots i (omega arith) e in
-          cancel (x N) (x i) (eval n (quotient (suc n) c (x N)) (x i)) (small N (omega arith)) (small i (omega arith))
-          (λ s. apart i N l (omega arith) (sym s)) (omega (arith, factor n c (x N) (x i))) in
+          cancel (x N) (x i) (eval n (quotient (suc n) c (x N)) (x i)) (bound N (omega arith)) (bound i (omega arith))
+          (λ s. differ i N l (omega arith) (sym s)) (omega (arith, factor n c (x N) (x i))) in
           from-quotient n c (x N)
-          (few-roots N x (λ i l. small i (omega arith)) (λ i j l m. apart i j l (omega arith)) n (quotient (suc n) c (x N)) g others (omega arith)) root k h
+          (few-roots N x (λ i l. bound i (omega arith)) (λ i j l m. differ i j l (omega arith)) n (quotient (suc n) c (x N)) g others (omega arith)) root k h
       | inr p ↦
-          few-roots N x (λ i l. small i (omega arith)) (λ i j l m. apart i j l (omega arith)) (suc n) c g (λ i l. roots i (omega arith)) (omega arith) k h
+          few-roots N x (λ i l. bound i (omega arith)) (λ i j l m. differ i j l (omega arith)) (suc n) c g (λ i l. roots i (omega arith)) (omega arith) k h
     ]
+
+-- Sums and multiples of polynomials.
+pub eval-plus : (n : ℕ) (c d : ℕ → ℕ) (m x : ℕ) → eval n (λ j. c j + m * d j) x ≡ eval n c x + m * eval n d x
+unfolding eval
+eval-plus zero c d m x = omega arith
+eval-plus (suc n) c d m x = omega (arith, ap (λ v. x * v) (eval-plus n (λ j. c (suc j)) (λ j. d (suc j)) m x))
+
+-- The value at x as the sum of the coefficients times the powers of x.
+pub eval-sum : (n : ℕ) (c : ℕ → ℕ) (x : ℕ) → Same (sum n (λ j. c j * power x j)) (eval n c x)
+unfolding eval power sum
+eval-sum zero c x = same-refl 0
+eval-sum (suc n) c x =
+    let rest : ℕ → ℕ = λ j. c (suc j) in
+    same-trans (same-of (sum-first n (λ j. c j * power x j)))
+    (same-add (same-of (mul-one (c 0)))
+    (same-trans
+    (same-sum n (λ j. rest j * power x (suc j)) (λ j. x * (rest j * power x j))
+    (λ j below. same-trans (same-mul (same-refl (rest j)) (same-mod (x * power x j))) (same-of (mul-left-comm (rest j) x (power x j)))))
+    (same-trans (same-of (sum-scale x n (λ j. rest j * power x j))) (same-mul (same-refl x) (eval-sum n rest x)))))
+
+-- Where the n-th power of w is 1 and none of the powers between is, the first n powers are different.
+notOne : ℕ → ℕ → Bool
+notOne w k = not (eqb (power w (suc k)) 1)
+
+powers-differ : (w m : ℕ) → T (below m (notOne w)) → power w (suc m) ≡ 1 → (i j : ℕ) → i < j → j < suc m → power w i ≢ power w j
+unfolding notOne
+powers-differ w m test one i j l h e =
+    let k : ℕ = i + (m - j) in
+    let up : i + suc (m - j) ≡ suc k = omega arith in
+    let round : j + suc (m - j) ≡ suc m = omega arith in
+    let again : power w (suc k) ≡ 1 =
+        same-eq
+        (same-trans (same-of (ap (power w) (sym up)))
+        (same-trans (power-add w i (suc (m - j)))
+        (same-trans (same-of (ap (λ v. v * power w (suc (m - j))) e))
+        (same-trans (same-sym (power-add w j (suc (m - j)))) (same-of (ap (power w) round ∙ one))))))
+        (power-lt w (suc k)) (lit< tt) in
+    T-not (eqb (power w (suc k)) 1) (below-at m (notOne w) test k (omega arith)) (subst (λ v. T (eqb v 1)) (sym again) tt)
+
+pub roots-differ : (f : Family) (i j : ℕ) → i < j → j < points f → power (root f) i ≢ power (root f) j
+unfolding notOne power
+roots-differ small = powers-differ 139 127 tt refl
+roots-differ large = powers-differ 41 255 tt refl
