@@ -26,7 +26,7 @@ differ-zero x y z = elim (ℕ-discrete x y) [ yes e ↦ e | no d ↦ omega (arit
 differ-bits : (x y : ℕ) → differ (x % 2) (y % 2) ≡ (x + y) % 2
 differ-bits x y =
     elim (ℕ-discrete (x % 2) (y % 2)) [
-      yes e ↦ differ-same (x % 2) (y % 2) e ∙ omega arith
+      | yes e ↦ differ-same (x % 2) (y % 2) e ∙ omega arith
       | no d ↦ differ-other (x % 2) (y % 2) d ∙ omega arith
     ]
 
@@ -63,7 +63,7 @@ ham-cut (suc m) n a b c d h k =
 differ-sym : (x y : ℕ) → differ x y ≡ differ y x
 differ-sym x y =
     elim (ℕ-discrete x y) [
-      yes e ↦ differ-same x y e ∙ sym (differ-same y x (sym e))
+      | yes e ↦ differ-same x y e ∙ sym (differ-same y x (sym e))
       | no d ↦ differ-other x y d ∙ sym (differ-other y x (λ e. d (sym e)))
     ]
 

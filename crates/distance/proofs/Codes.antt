@@ -52,7 +52,7 @@ far-at c t y z h l =
 by-test : (c : ℕ) → T (below 257 (far c)) → (y z : ℕ) → y < 257 → z < 257 → y ≢ z → 4 ≤ apart 16 (code c y) (code c z)
 by-test c t y z h k d =
     elim (decLt z y) [
-      yes l ↦ far-at c t y z h l
+      | yes l ↦ far-at c t y z h l
       | no l ↦ rw (apart-sym 16 (code c y) (code c z)) (far-at c t z y k (omega (arith, l, d)))
     ]
 

@@ -31,8 +31,8 @@ by-rows m r g =
 -- Even values and then odd ones, each with the value 16 r places later, in 8 rows of r pairs each.
 by-halves : (r : ℕ) (g : ℕ → ℕ)
     → sum 8 (λ i. sum r (λ j. g (2 * r * i + 2 * j) + g (2 * r * i + 2 * j + 16 * r)))
-      + sum 8 (λ i. sum r (λ j. g (2 * r * i + 2 * j + 1) + g (2 * r * i + 2 * j + 1 + 16 * r)))
-      ≡ sum (32 * r) g
+    + sum 8 (λ i. sum r (λ j. g (2 * r * i + 2 * j + 1) + g (2 * r * i + 2 * j + 1 + 16 * r)))
+    ≡ sum (32 * r) g
 by-halves r g =
     let two : ℕ → ℕ = λ k. g k + g (k + 16 * r) in
     sym (sum-plus 8 (λ i. sum r (λ j. two (2 * r * i + 2 * j))) (λ i. sum r (λ j. two (2 * r * i + 2 * j + 1))))
@@ -98,7 +98,7 @@ module _ (f : Family) (y z : ℕ → ℕ) where
   -- The bits that two expanded blocks are apart are those that the codes of their values are apart.
   pub bits-by-codes : bitsApart f (expandedFrom f y) (expandedFrom f z)
       ≡ sum (points f) (λ k. apart 16 (code firstCode (y k)) (code firstCode (z k)))
-        + sum (points f) (λ k. apart 16 (code secondCode (y k)) (code secondCode (z k)))
+      + sum (points f) (λ k. apart 16 (code secondCode (y k)) (code secondCode (z k)))
   unfolding bitsApart rowApart codeApart
   bits-by-codes =
       sum-ext 32 _ _ (λ i below. sum-ext (rows f) _ _ (λ j inside. ap₂ (apart 32) (word y i j below inside) (word z i j below inside)))

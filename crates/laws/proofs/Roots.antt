@@ -143,12 +143,12 @@ powers-differ w m test one i j l h e =
     let up : i + suc (m - j) ≡ suc k = omega arith in
     let round : j + suc (m - j) ≡ suc m = omega arith in
     let again : power w (suc k) ≡ 1 =
-        same-eq
-        (same-trans (same-of (ap (power w) (sym up)))
-        (same-trans (power-add w i (suc (m - j)))
-        (same-trans (same-of (ap (λ v. v * power w (suc (m - j))) e))
-        (same-trans (same-sym (power-add w j (suc (m - j)))) (same-of (ap (power w) round ∙ one))))))
-        (power-lt w (suc k)) (lit< tt) in
+    same-eq
+    (same-trans (same-of (ap (power w) (sym up)))
+    (same-trans (power-add w i (suc (m - j)))
+    (same-trans (same-of (ap (λ v. v * power w (suc (m - j))) e))
+    (same-trans (same-sym (power-add w j (suc (m - j)))) (same-of (ap (power w) round ∙ one))))))
+    (power-lt w (suc k)) (lit< tt) in
     T-not (eqb (power w (suc k)) 1) (below-at m (notOne w) test k (omega arith)) (subst (λ v. T (eqb v 1)) (sym again) tt)
 
 pub roots-differ : (f : Family) (i j : ℕ) → i < j → j < points f → power (root f) i ≢ power (root f) j
