@@ -8,7 +8,7 @@ use native.Mathlib.Omega.{arith}
 use lib.Dec.{T, leb, leb→le}
 use lib.IntN.{ℤ, pos, negsuc, _*ℤ_}
 use Rattle.simd.specs.Expansion.{code, lift, residue, pair}
-use Rattle.laws.proofs.Roots.{below, below-at}
+use Rattle.laws.proofs.Below.{below, below-at}
 use Rattle.distance.specs.Apart.{apart, firstCode, secondCode}
 use Rattle.distance.proofs.Bits.{ham, apart-ham, ham-cut, apart-sym}
 

@@ -17,7 +17,7 @@ use Rattle.laws.proofs.Field.{Same, same-trans, same-of, power-lt, power-mul}
 use Rattle.laws.proofs.Sum.{sum-ext, sum-scale}
 use Rattle.laws.proofs.Regroup.{sum-le}
 use Rattle.laws.proofs.Roots.{eval, eval-plus, eval-sum, few-roots, roots-differ}
-use Rattle.distance.specs.Apart.{Block, differ, apart, bitsApart, pointsApart, expandedFrom, leastApart, firstCode, secondCode}
+use Rattle.distance.specs.Apart.{Block, differ, apart, bitsApart, pointsApart, rowOfZ, expandedFrom, leastApart, firstCode, secondCode}
 use Rattle.distance.proofs.Bits.{differ-same, differ-other, differ-zero}
 use Rattle.distance.proofs.Codes.{first-distance, second-distance}
 use Rattle.distance.proofs.Matrix.{bits-by-codes}
@@ -94,10 +94,10 @@ least : (f : Family) → leastApart f ≤ 8 * (16 * rows f + 1)
 least small = omega arith
 least large = omega arith
 
--- Demand 3, the distances.
+-- The distances of the expansion.
 pub distances : (f : Family) (last : Bool) (a b : List ℕ) → Block f a → Block f b → a ≢ b
     → leastApart f ≤ bitsApart f (expanded f last a) (expanded f last b)
-unfolding expanded expandedFrom
+unfolding expanded expandedFrom rowOfZ
 distances f last a b p q d =
     omega (
       arith,

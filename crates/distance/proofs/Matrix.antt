@@ -1,7 +1,7 @@
 -- Each value of the transform stands in Z, and so in the expanded block, once under each of the two codes.
-use mathlib.Core.List.{List, []}
-use mathlib.Core.Path.{_≡_, refl, sym, ap, ap₂, _∙_}
-use Prim.Native.Nat.{ℕ, zero, suc, _+_, _-_, _*_, _<_, _≤_}
+use mathlib.Core.List.{[]}
+use mathlib.Core.Path.{_≡_, sym, ap, ap₂, _∙_}
+use Prim.Native.Nat.{ℕ, _+_, _*_, _<_}
 use native.Mathlib.Nat.{add-assoc, add-comm, add-sub-cancel-left}
 use native.Mathlib.Omega.{arith}
 use lib.ListN.{getD}
@@ -12,12 +12,12 @@ use Rattle.simd.specs.Expansion.{code, pair, matrix}
 use Rattle.laws.proofs.Table.{getD-table}
 use Rattle.laws.proofs.Sum.{sum-ext, sum-plus, sum-append}
 use Rattle.laws.proofs.Regroup.{sum-blocks, sum-pairs}
-use Rattle.distance.specs.Apart.{apart, bitsApart, expandedFrom, firstCode, secondCode}
+use Rattle.distance.specs.Apart.{apart, bitsApart, rowOfZ, expandedFrom, firstCode, secondCode}
 use Rattle.distance.proofs.Codes.{pair-apart}
 
 -- Each row of Z is one row of the expanded block.
-reorder : (g : ℕ → ℕ) → sum 32 (λ i. g (getD order i 0)) ≡ sum 32 g
-unfolding sum order
+reorder : (g : ℕ → ℕ) → sum 32 (λ i. g (rowOfZ i)) ≡ sum 32 g
+unfolding sum rowOfZ order
 reorder g = omega arith
 
 -- Values taken by twos, in m rows of r pairs.
@@ -60,6 +60,14 @@ odd-word : (f : Family) (y : ℕ → ℕ) (i j : ℕ) → i < 8
 unfolding matrix
 odd-word f y i j h = rw (le-ltb (24 + i) 16 (omega arith), le-ltb (24 + i) 24 (omega arith), add-sub-cancel-left 24 i)
 
+three-parts : (g : ℕ → ℕ) → sum 32 g ≡ sum 16 g + (sum 8 (λ i. g (16 + i)) + sum 8 (λ i. g (24 + i)))
+unfolding sum
+three-parts g = omega arith
+
+word : (f : Family) (y : ℕ → ℕ) (i j : ℕ) → i < 32 → j < rows f → getD (getD (expandedFrom f y) i []) j 0 ≡ matrix f y (rowOfZ i) j
+unfolding expandedFrom
+word f y i j h k = rw (getD-table 32 (λ i. table (rows f) (matrix f y (rowOfZ i))) i [] h) (getD-table (rows f) (matrix f y (rowOfZ i)) j 0 k)
+
 module _ (f : Family) (y z : ℕ → ℕ) where
   -- The bits apart of row i of Z.
   rowApart : ℕ → ℕ
@@ -69,39 +77,32 @@ module _ (f : Family) (y z : ℕ → ℕ) where
   codeApart : ℕ → ℕ → ℕ
   codeApart c k = apart 16 (code c (y k)) (code c (z k))
 
-  first-rows : sum 16 rowApart ≡ sum (points f) (codeApart firstCode)
+  -- A row whose word j holds the codes by c of values l j and h j.
+  by-words : (i c : ℕ) (l h : ℕ → ℕ) → ((v : ℕ → ℕ) (j : ℕ) → matrix f v i j ≡ pair c (v (l j)) (v (h j)))
+      → rowApart i ≡ sum (rows f) (λ j. codeApart c (l j) + codeApart c (h j))
   unfolding rowApart codeApart
+  by-words i c l h e =
+      sum-ext (rows f) _ _ (λ j below. ap₂ (apart 32) (e y j) (e z j) ∙ pair-apart c (y (l j)) (y (h j)) (z (l j)) (z (h j)))
+
+  first-rows : sum 16 rowApart ≡ sum (points f) (codeApart firstCode)
   first-rows =
-      sum-ext 16 _ _
-      (λ i below. sum-ext (rows f) _ _ (λ j inside. ap₂ (apart 32) (first-word f y i j below) (first-word f z i j below) ∙ pair-apart firstCode _ _ _ _))
+      sum-ext 16 _ _ (λ i below. by-words i firstCode _ _ (λ v j. first-word f v i j below))
       ∙ by-rows 16 (rows f) (codeApart firstCode)
       ∙ ap (λ n. sum n (codeApart firstCode)) (omega arith)
 
   second-rows : sum 8 (λ i. rowApart (16 + i)) + sum 8 (λ i. rowApart (24 + i)) ≡ sum (points f) (codeApart secondCode)
-  unfolding rowApart codeApart
   second-rows =
-      ap₂ (λ u v. u + v)
-      (sum-ext 8 _ _
-      (λ i below. sum-ext (rows f) _ _ (λ j inside. ap₂ (apart 32) (even-word f y i j below) (even-word f z i j below) ∙ pair-apart secondCode _ _ _ _)))
-      (sum-ext 8 _ _
-      (λ i below. sum-ext (rows f) _ _ (λ j inside. ap₂ (apart 32) (odd-word f y i j below) (odd-word f z i j below) ∙ pair-apart secondCode _ _ _ _)))
+      ap₂ (λ u v. u + v) (sum-ext 8 _ _ (λ i below. by-words (16 + i) secondCode _ _ (λ v j. even-word f v i j below)))
+      (sum-ext 8 _ _ (λ i below. by-words (24 + i) secondCode _ _ (λ v j. odd-word f v i j below)))
       ∙ by-halves (rows f) (codeApart secondCode)
 
-  three-parts : (g : ℕ → ℕ) → sum 32 g ≡ sum 16 g + (sum 8 (λ i. g (16 + i)) + sum 8 (λ i. g (24 + i)))
-  unfolding sum
-  three-parts g = omega arith
-
-  word : (v : ℕ → ℕ) (i j : ℕ) → i < 32 → j < rows f → getD (getD (expandedFrom f v) i []) j 0 ≡ matrix f v (getD order i 0) j
-  unfolding expandedFrom
-  word v i j h k = rw (getD-table 32 (λ i. table (rows f) (matrix f v (getD order i 0))) i [] h) (getD-table (rows f) (matrix f v (getD order i 0)) j 0 k)
-
-  -- The bits that two expanded blocks are apart are those that the codes of their values are apart.
+  -- The bits that two expanded blocks are apart are those that the codes of their values are apart, each value counted once for each code.
   pub bits-by-codes : bitsApart f (expandedFrom f y) (expandedFrom f z)
       ≡ sum (points f) (λ k. apart 16 (code firstCode (y k)) (code firstCode (z k)))
       + sum (points f) (λ k. apart 16 (code secondCode (y k)) (code secondCode (z k)))
   unfolding bitsApart rowApart codeApart
   bits-by-codes =
-      sum-ext 32 _ _ (λ i below. sum-ext (rows f) _ _ (λ j inside. ap₂ (apart 32) (word y i j below inside) (word z i j below inside)))
+      sum-ext 32 _ _ (λ i below. sum-ext (rows f) _ _ (λ j inside. ap₂ (apart 32) (word f y i j below inside) (word f z i j below inside)))
       ∙ reorder rowApart
       ∙ three-parts rowApart
       ∙ ap₂ (λ u v. u + v) first-rows second-rows

@@ -26,9 +26,13 @@ apart n x y = sum n (λ t. differ (x / 2 ^ t % 2) (y / 2 ^ t % 2))
 unfoldable pub bitsApart : Family → List (List ℕ) → List (List ℕ) → ℕ
 bitsApart f v w = sum 32 (λ i. sum (rows f) (λ j. apart 32 (getD (getD v i []) j 0) (getD (getD w i []) j 0)))
 
+-- P(i): the row of Z that is row i of an expanded block.
+unfoldable pub rowOfZ : ℕ → ℕ
+rowOfZ i = getD order i 0
+
 -- The expanded block that the 32 R values y of a transform give: `expanded` of a block is that of the block's transform.
 unfoldable pub expandedFrom : Family → (ℕ → ℕ) → List (List ℕ)
-expandedFrom f y = table 32 (λ i. table (rows f) (matrix f y (getD order i 0)))
+expandedFrom f y = table 32 (λ i. table (rows f) (matrix f y (rowOfZ i)))
 
 -- The multipliers of the inner codes: of rows 0 to 15 of Z, and of rows 16 to 31.
 abbrev pub firstCode : ℕ

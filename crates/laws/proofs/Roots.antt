@@ -1,34 +1,20 @@
 -- Polynomials modulo 257: a polynomial of n coefficients, not all 0, has fewer than n roots.
 -- Numbers are natural numbers, so a difference is written as an exact equation of two sums.
-use mathlib.Core.Bool.{Bool, true, false, not, _&&_}
-use mathlib.Core.Logic.{_≢_, _⊎_, inl, inr}
+use mathlib.Core.Bool.{Bool, not}
+use mathlib.Core.Logic.{_≢_, inl, inr}
 use mathlib.Core.Path.{_≡_, refl, sym, ap, _∙_, subst}
 use Prim.Native.Nat.{ℕ, zero, suc, _+_, _-_, _*_, _/_, _%_, _<_, _≤_}
-use native.Mathlib.Nat.{mul-one, mul-left-comm, le-of-suc-le-suc, not-suc-le-zero, eq-or-lt-of-le, eq-zero-or-pos}
+use native.Mathlib.Nat.{mul-one, mul-left-comm, le-of-suc-le-suc, not-suc-le-zero, eq-zero-or-pos}
 use native.Mathlib.Decide.{decLt}
 use native.Mathlib.Omega.{arith}
 use lib.Dec.{T, T-not, eqb, eqb→eq, lit<}
 use Rattle.simd.specs.Basic.{Family, small, large, points, sum}
 use Rattle.simd.specs.Constants.{root}
 use Rattle.simd.specs.Expansion.{power}
+use Rattle.laws.proofs.Below.{below, below-at}
 use Rattle.laws.proofs.Sum.{sum-scale}
 use Rattle.laws.proofs.Regroup.{sum-first}
 use Rattle.laws.proofs.Field.{Same, same-refl, same-of, same-sym, same-trans, same-mod, same-add, same-mul, same-eq, same-sum, power-lt, power-add}
-
--- A rule of the numbers below n, tested at all of them by one computation.
-abbrev pub below : ℕ → (ℕ → Bool) → Bool
-below zero p = true
-below (suc n) p = p n && below n p
-
-both : (a b : Bool) → T (a && b) → T a × T b
-both true b t = (tt, t)
-both false b t = absurd t
-
-pub below-at : (n : ℕ) (p : ℕ → Bool) → T (below n p) → (i : ℕ) → i < n → T (p i)
-below-at zero p t i h = absurd (not-suc-le-zero h)
-below-at (suc n) p t i h =
-    let b = both (p n) (below n p) t in
-    elim (eq-or-lt-of-le (le-of-suc-le-suc h)) [ inl e ↦ subst (λ k. T (p k)) (sym e) (b .0) | inr l ↦ below-at n p (b .1) i l ]
 
 -- The polynomial c 0 + c 1 x + .. + c (n - 1) x^(n - 1).
 pub eval : ℕ → (ℕ → ℕ) → ℕ → ℕ
@@ -48,6 +34,7 @@ unfolding eval quotient
 factor zero c a x = omega arith
 factor (suc n) c a x = omega (arith, ap (λ v. x * v) (factor n (λ j. c (suc j)) a x))
 
+-- A multiple of 0 is 0.
 multiple : (a v : ℕ) → v % 257 ≡ 0 → a * v % 257 ≡ 0
 multiple a v z =
     let e : v ≡ 257 * (v / 257) = omega arith in
@@ -91,7 +78,7 @@ cancel a x v ha hx d e = elim (decLt a x) [ yes l ↦ up a x l hx e | no l ↦ u
         no-zero-divisor (x - suc a) v (omega arith) (omega (arith, e, ap (λ s. s * v) split))
 
 -- A polynomial of n coefficients that is 0 at n of N different points has only coefficients that are 0.
--- g says where it may differ from 0: its sum over the points is at least the number of points that are no roots.
+-- g is 0 at roots only, so that its sum counts at least the points that are no roots.
 pub few-roots : (N : ℕ) (x : ℕ → ℕ) → ((i : ℕ) → i < N → x i < 257) → ((i j : ℕ) → i < j → j < N → x i ≢ x j)
     → (n : ℕ) (c g : ℕ → ℕ) → ((i : ℕ) → i < N → g i ≡ 0 → eval n c (x i) % 257 ≡ 0) → sum N g + n ≤ N
     → (k : ℕ) → k < n → c k % 257 ≡ 0
@@ -151,6 +138,7 @@ powers-differ w m test one i j l h e =
     (power-lt w (suc k)) (lit< tt) in
     T-not (eqb (power w (suc k)) 1) (below-at m (notOne w) test k (omega arith)) (subst (λ v. T (eqb v 1)) (sym again) tt)
 
+-- The 32 R points of the transform are different.
 pub roots-differ : (f : Family) (i j : ℕ) → i < j → j < points f → power (root f) i ≢ power (root f) j
 unfolding notOne power
 roots-differ small = powers-differ 139 127 tt refl
