@@ -1,4 +1,5 @@
--- The distances: expansions of two different blocks, both as message or both as length, are at least 520 (small) or 1,032 (large) bits apart.
+-- The distances of the expansion: 520 bits (small) and 1,032 bits (large).
+-- Different blocks differ at 16 R + 1 points of the transform at least, and each such point costs 4 bits under each of the two codes.
 use mathlib.Core.Bool.{Bool}
 use mathlib.Core.List.{List}
 use mathlib.Core.Logic.{_≢_}
@@ -17,7 +18,8 @@ use Rattle.laws.proofs.Field.{Same, same-trans, same-of, power-lt, power-mul}
 use Rattle.laws.proofs.Sum.{sum-ext, sum-scale}
 use Rattle.laws.proofs.Regroup.{sum-le}
 use Rattle.laws.proofs.Roots.{eval, eval-plus, eval-sum, few-roots, roots-differ}
-use Rattle.distance.specs.Apart.{Block, differ, apart, bitsApart, pointsApart, rowOfZ, expandedFrom, leastApart, firstCode, secondCode}
+use Rattle.distance.specs.Apart.{Block, differ, apart, bitsApart, leastApart}
+use Rattle.distance.specs.Layers.{pointsApart, rowOfZ, expandedFrom, firstCode, secondCode}
 use Rattle.distance.proofs.Bits.{differ-same, differ-other, differ-zero}
 use Rattle.distance.proofs.Codes.{first-distance, second-distance}
 use Rattle.distance.proofs.Matrix.{bits-by-codes}
@@ -65,11 +67,11 @@ module _ (f : Family) (last : Bool) (a b : List ℕ) where
 
   same-blocks : Block f a → Block f b → ((j : ℕ) → j < blockBytes f → difference j % 257 ≡ 0) → a ≡ b
   unfolding difference
-  same-blocks p q zero =
+  same-blocks p q vanish =
       ext-getD 0 a b (p .size ∙ sym (q .size))
       (λ j below.
       let h : j < blockBytes f = omega (arith, p .size) in
-      omega (arith, zero j h, p .bytes j h, q .bytes j h))
+      omega (arith, vanish j h, p .bytes j h, q .bytes j h))
 
   -- Two polynomials of degree below 16 R that agree at 16 R of the 32 R points are equal, so different blocks differ at 16 R + 1 points.
   pub points-apart : Block f a → Block f b → a ≢ b → 16 * rows f + 1 ≤ pointsApart f (transform f last a) (transform f last b)
@@ -86,6 +88,7 @@ module _ (f : Family) (last : Bool) (a b : List ℕ) where
       (λ i below z. root-at i (differ-zero (transform f last a i) (transform f last b i) z)) (omega arith)))) in
       omega arith
 
+-- A value of the transform is a residue.
 transform-lt : (f : Family) (last : Bool) (b : List ℕ) (i : ℕ) → transform f last b i < 257
 unfolding transform
 transform-lt f last b i = mod-lt (sum (blockBytes f) (λ j. getD b j 0 * power (root f) (i * j)) + added f last i) (lit< tt)
@@ -94,14 +97,18 @@ least : (f : Family) → leastApart f ≤ 8 * (16 * rows f + 1)
 least small = omega arith
 least large = omega arith
 
--- The distances of the expansion.
+pub expanded-from : (f : Family) (last : Bool) (b : List ℕ) → expanded f last b ≡ expandedFrom f (transform f last b)
+unfolding expanded expandedFrom rowOfZ
+expanded-from f last b = refl
+
+-- The expansions of two different blocks, both as message or both as length, are at least so many bits apart.
 pub distances : (f : Family) (last : Bool) (a b : List ℕ) → Block f a → Block f b → a ≢ b
     → leastApart f ≤ bitsApart f (expanded f last a) (expanded f last b)
-unfolding expanded expandedFrom rowOfZ
 distances f last a b p q d =
-    omega (
+    rw (expanded-from f last a, expanded-from f last b)
+    (omega (
       arith,
       least f,
       points-apart f last a b p q d,
       bits-of-points f (transform f last a) (transform f last b) (λ k below. transform-lt f last a k) (λ k below. transform-lt f last b k),
-    )
+    ))

@@ -12,7 +12,8 @@ use Rattle.simd.specs.Expansion.{code, pair, matrix}
 use Rattle.laws.proofs.Table.{getD-table}
 use Rattle.laws.proofs.Sum.{sum-ext, sum-plus, sum-append}
 use Rattle.laws.proofs.Regroup.{sum-blocks, sum-pairs}
-use Rattle.distance.specs.Apart.{apart, bitsApart, rowOfZ, expandedFrom, firstCode, secondCode}
+use Rattle.distance.specs.Apart.{apart, bitsApart}
+use Rattle.distance.specs.Layers.{rowOfZ, expandedFrom, firstCode, secondCode}
 use Rattle.distance.proofs.Codes.{pair-apart}
 
 -- Each row of Z is one row of the expanded block.

@@ -2,12 +2,10 @@
 use mathlib.Core.Bool.{cond}
 use mathlib.Core.List.{List, []}
 use mathlib.Core.Path.{_≡_}
-use Prim.Native.Nat.{ℕ, _+_, _*_, _/_, _%_, _^_, _<_}
+use Prim.Native.Nat.{ℕ, _/_, _%_, _^_, _<_}
 use lib.Dec.{eqb}
 use lib.ListN.{length, getD}
-use Rattle.simd.specs.Basic.{Family, small, large, rows, blockBytes, points, table, sum}
-use Rattle.simd.specs.Constants.{order}
-use Rattle.simd.specs.Expansion.{matrix}
+use Rattle.simd.specs.Basic.{Family, small, large, rows, blockBytes, sum}
 
 -- A block of the family: 16 R bytes.
 pub record Block (f : Family) (b : List ℕ) : Type 0 where
@@ -25,25 +23,6 @@ apart n x y = sum n (λ t. differ (x / 2 ^ t % 2) (y / 2 ^ t % 2))
 -- The same for two expanded blocks, of 32 rows of R words of 32 bits: 4,096 (small) or 8,192 (large) places.
 unfoldable pub bitsApart : Family → List (List ℕ) → List (List ℕ) → ℕ
 bitsApart f v w = sum 32 (λ i. sum (rows f) (λ j. apart 32 (getD (getD v i []) j 0) (getD (getD w i []) j 0)))
-
--- P(i): the row of Z that is row i of an expanded block.
-unfoldable pub rowOfZ : ℕ → ℕ
-rowOfZ i = getD order i 0
-
--- The expanded block that the 32 R values y of a transform give: `expanded` of a block is that of the block's transform.
-unfoldable pub expandedFrom : Family → (ℕ → ℕ) → List (List ℕ)
-expandedFrom f y = table 32 (λ i. table (rows f) (matrix f y (rowOfZ i)))
-
--- The multipliers of the inner codes: of rows 0 to 15 of Z, and of rows 16 to 31.
-abbrev pub firstCode : ℕ
-firstCode = 185
-
-abbrev pub secondCode : ℕ
-secondCode = 233
-
--- The number of points, among the 32 R of the transform, where the values y and z differ.
-unfoldable pub pointsApart : Family → (ℕ → ℕ) → (ℕ → ℕ) → ℕ
-pointsApart f y z = sum (points f) (λ i. differ (y i) (z i))
 
 -- The bits that the expansions of two different blocks are apart at least.
 abbrev pub leastApart : Family → ℕ

@@ -1,7 +1,7 @@
 -- Sums taken in another order.
-use mathlib.Core.Path.{_≡_, refl, sym, ap, _∙_}
+use mathlib.Core.Path.{_≡_, _∙_}
 use Prim.Native.Nat.{ℕ, zero, suc, _+_, _*_, _<_, _≤_}
-use native.Mathlib.Nat.{add-zero, zero-add, add-suc, suc-add, mul-zero, mul-suc, suc-mul}
+use native.Mathlib.Nat.{add-zero, zero-add, mul-zero, mul-suc}
 use native.Mathlib.Omega.{arith}
 use Rattle.simd.specs.Basic.{sum}
 use Rattle.laws.proofs.Sum.{sum-ext, sum-append}
@@ -12,6 +12,7 @@ unfolding sum
 sum-first zero g = omega arith
 sum-first (suc n) g = omega (arith, sum-first n g)
 
+-- Smaller terms, smaller sum.
 pub sum-le : (n : ℕ) (g h : ℕ → ℕ) → ((i : ℕ) → i < n → g i ≤ h i) → sum n g ≤ sum n h
 unfolding sum
 sum-le zero g h e = omega arith
