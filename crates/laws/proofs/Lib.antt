@@ -4,3 +4,4 @@ pub mod Field
 pub mod Below
 pub mod Regroup
 pub mod Roots
+pub mod Words
