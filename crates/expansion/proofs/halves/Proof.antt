@@ -10,13 +10,13 @@ use Rattle.expansion.proofs.halves.Statement.{statement}
 use Rattle.expansion.proofs.halves.Tie as tie
 
 abbrev Inv-loop : tie.InvT-loop
-Inv-loop words shift out₀ n k₀ out k = (k ≤ length out₀) × Filled 0 (length out₀) (halvesApart (length out₀) shift words) k out
+Inv-loop words shift n out₀ k₀ out k = (k ≤ n) × Filled 0 n (halvesApart n shift words) k out
 
 abbrev μ-loop : tie.MeasureT-loop
-μ-loop words shift out₀ n k₀ out k = length out₀ - k
+μ-loop words shift n out₀ k₀ out k = n - k
 
 loop-holds : tie.Need-loop-holds Inv-loop μ-loop
-loop-holds c = (search needs, filled-none refl)
+loop-holds c = (search needs, filled-none (c .before .before .pre .1 .1))
 
 mul-half : tie.Need-mul-half Inv-loop μ-loop
 mul-half c = search needs

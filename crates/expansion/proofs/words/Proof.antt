@@ -10,13 +10,13 @@ use Rattle.expansion.proofs.words.Statement.{statement}
 use Rattle.expansion.proofs.words.Tie as tie
 
 abbrev Inv-loop : tie.InvT-loop
-Inv-loop codes out₀ k₀ out k = (k ≤ length out₀) × Filled 0 (length out₀) (neighbours codes) k out
+Inv-loop codes n out₀ k₀ out k = (k ≤ n) × Filled 0 n (neighbours codes) k out
 
 abbrev μ-loop : tie.MeasureT-loop
-μ-loop codes out₀ k₀ out k = length out₀ - k
+μ-loop codes n out₀ k₀ out k = n - k
 
 loop-holds : tie.Need-loop-holds Inv-loop μ-loop
-loop-holds c = (search needs, filled-none refl)
+loop-holds c = (search needs, filled-none (c .before .before .pre .1))
 
 mul-at : tie.Need-mul-at Inv-loop μ-loop
 mul-at c = search needs

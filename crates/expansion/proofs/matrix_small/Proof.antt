@@ -1,0 +1,40 @@
+use borrow.Author.Needs.{needs}
+use Rattle.expansion.proofs.matrix_small.Statement.{statement}
+use Rattle.expansion.proofs.matrix_small.Tie as tie
+
+slice-aggregate-flatten : tie.Need-slice-aggregate-flatten
+slice-aggregate-flatten c = search needs
+
+slice-aggregate-flatten-2 : tie.Need-slice-aggregate-flatten-2
+slice-aggregate-flatten-2 c = search needs
+
+slice-aggregate-flatten-3 : tie.Need-slice-aggregate-flatten-3
+slice-aggregate-flatten-3 c = search needs
+
+slice-aggregate-flatten-4 : tie.Need-slice-aggregate-flatten-4
+slice-aggregate-flatten-4 c = search needs
+
+flatten-requires : tie.Need-flatten-requires
+flatten-requires c κs = search needs
+
+slice-aggregate-rows-small : tie.Need-slice-aggregate-rows-small
+slice-aggregate-rows-small c = search needs
+
+rows-small-requires : tie.Need-rows-small-requires
+rows-small-requires c κs = search needs
+
+returns : tie.Need-returns
+returns c = ?
+
+pub matrix-small-spec : {M : Type 1} → statement M
+matrix-small-spec =
+    tie.close
+    (tie.spec
+    slice-aggregate-flatten
+    slice-aggregate-flatten-2
+    slice-aggregate-flatten-3
+    slice-aggregate-flatten-4
+    flatten-requires
+    slice-aggregate-rows-small
+    rows-small-requires
+    returns)
