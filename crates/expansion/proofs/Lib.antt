@@ -1,3 +1,4 @@
 pub mod Inner
 pub mod Rows
 pub mod Assembly
+pub mod Expanded

@@ -1,3 +1,6 @@
+use Rattle.simd.specs.Basic.{small}
+use lib.ListN.{getD}
+use Rattle.expansion.proofs.Expanded.{matrix-of}
 use borrow.Author.Needs.{needs}
 use Rattle.expansion.proofs.matrix_small.Statement.{statement}
 use Rattle.expansion.proofs.matrix_small.Tie as tie
@@ -24,7 +27,7 @@ rows-small-requires : tie.Need-rows-small-requires
 rows-small-requires c κs = search needs
 
 returns : tie.Need-returns
-returns c = ?
+returns c = matrix-of small (λ k. getD (c .before .before .before .before .before .before .before .before .before .before .before .before .args .y .now) k 0) (c .before .before .before .before .before .before .flatten .ensures) (c .rows-small .ensures)
 
 pub matrix-small-spec : {M : Type 1} → statement M
 matrix-small-spec =
