@@ -1,4 +1,5 @@
-pub mod Inner
+pub mod Signed
 pub mod Rows
 pub mod Assembly
 pub mod Expanded
+pub mod Written

@@ -10,16 +10,16 @@ use Rattle.simd.specs.Constants.{order}
 use Rattle.laws.proofs.Table.{every-at}
 use Rattle.expansion.specs.Layers.{row}
 
-pub row-four : (w : List ℕ) (i : ℕ) →
-    getD w (4 * i) 0 ∷ getD w (4 * i + 1) 0 ∷ getD w (4 * i + 2) 0 ∷ getD w (4 * i + 3) 0 ∷ [] ≡ row 4 w i
+pub row-four : (w : List ℕ) (i : ℕ) {r : List ℕ} →
+    r ≡ getD w (4 * i) 0 ∷ getD w (4 * i + 1) 0 ∷ getD w (4 * i + 2) 0 ∷ getD w (4 * i + 3) 0 ∷ [] → r ≡ row 4 w i
 unfolding row table
-row-four w i = rw (add-zero (4 * i))
+row-four w i is = rw (is, add-zero (4 * i))
 
-pub row-eight : (w : List ℕ) (i : ℕ) →
-    getD w (8 * i) 0 ∷ getD w (8 * i + 1) 0 ∷ getD w (8 * i + 2) 0 ∷ getD w (8 * i + 3) 0 ∷
-    getD w (8 * i + 4) 0 ∷ getD w (8 * i + 5) 0 ∷ getD w (8 * i + 6) 0 ∷ getD w (8 * i + 7) 0 ∷ [] ≡ row 8 w i
+pub row-eight : (w : List ℕ) (i : ℕ) {r : List ℕ} →
+    r ≡ getD w (8 * i) 0 ∷ getD w (8 * i + 1) 0 ∷ getD w (8 * i + 2) 0 ∷ getD w (8 * i + 3) 0 ∷
+    getD w (8 * i + 4) 0 ∷ getD w (8 * i + 5) 0 ∷ getD w (8 * i + 6) 0 ∷ getD w (8 * i + 7) 0 ∷ [] → r ≡ row 8 w i
 unfolding row table
-row-eight w i = rw (add-zero (8 * i))
+row-eight w i is = rw (is, add-zero (8 * i))
 
 -- Each entry of P is a row of Z.
 entry-lt : (i : ℕ) → i < 32 → getD order i 0 < 32

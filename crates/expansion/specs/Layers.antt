@@ -1,6 +1,6 @@
 -- The parts in which the matrix Z is worked out. Each is a function on places: a list of n of them is `table n` of it.
 use mathlib.Core.Bool.{cond}
-use mathlib.Core.List.{List, _++_}
+use mathlib.Core.List.{List, [], _++_}
 use mathlib.Core.Path.{_≡_}
 use Prim.Native.Nat.{ℕ, _+_, _*_, _-_, _/_, _%_, _^_, _<_}
 use lib.Dec.{ltb}
@@ -47,3 +47,8 @@ pub record Buffers (q : ℕ) (y by185 by233 pairs words : List ℕ) : Type 0 whe
   pub second : length by233 ≡ 4 * q
   pub joined : length pairs ≡ 2 * q
   pub output : length words ≡ 4 * q
+
+-- 32 rows of r words.
+pub record IsRows (r : ℕ) (rows : List (List ℕ)) : Type 0 where
+  pub count : length rows ≡ 32
+  pub width : (k : ℕ) → k < 32 → length (getD rows k []) ≡ r
