@@ -3,3 +3,4 @@ pub mod Rows
 pub mod Assembly
 pub mod Expanded
 pub mod Written
+pub mod Refused

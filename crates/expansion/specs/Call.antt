@@ -11,14 +11,13 @@ use Rattle.simd.specs.Expansion.{expanded}
 abbrev pub expandedWords : Family → ℕ
 expandedWords f = 32 * rows f
 
--- The refusal's number, 0 where nothing is refused: 1 for an unknown width, 7 for a block of another size, 6 for too few words.
+-- The refusal's number, 0 where nothing is refused: 1 for an unknown width, then 7 for a block of another size, then 6 for too few words.
+unfoldable pub sizeRefusal : ℕ → ℕ → ℕ → ℕ → ℕ
+sizeRefusal block words bytes room = cond (eqb bytes block) (cond (leb words room) 0 6) 7
+
 unfoldable pub expandRefusal : ℕ → ℕ → ℕ → ℕ
 expandRefusal width bytes room =
-    cond (isWidth width)
-    (cond (eqb bytes (blockBytes (familyOf width)))
-    (cond (leb (expandedWords (familyOf width)) room) 0 6)
-    7)
-    1
+    cond (isWidth width) (sizeRefusal (blockBytes (familyOf width)) (expandedWords (familyOf width)) bytes room) 1
 
 -- The lent words afterwards: the expanded rows one after another and the remaining words as they were, or all as they were.
 unfoldable pub expandOutput : ℕ → Bool → List ℕ → List ℕ → List ℕ
