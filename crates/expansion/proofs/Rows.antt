@@ -1,6 +1,6 @@
 -- Rows: one as a list of its words, and P as a choice among 32 of them.
 use mathlib.Core.List.{List, [], _∷_}
-use mathlib.Core.Path.{_≡_, refl}
+use mathlib.Core.Path.{_≡_}
 use Prim.Native.Nat.{ℕ, _+_, _*_, _<_}
 use native.Mathlib.Nat.{add-zero}
 use lib.Dec.{ltb, ltb→lt}

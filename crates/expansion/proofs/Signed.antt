@@ -1,6 +1,5 @@
 -- The inner code on the machine's signed numbers: what the lift is, how large a product gets, and its residue.
-use mathlib.Core.Path.{_≡_, refl, sym, ap, _∙_, subst}
-use mathlib.Core.Logic.{⊎-elim}
+use mathlib.Core.Path.{_≡_, refl, ap}
 use Prim.Native.Nat.{ℕ, zero, suc, _+_, _*_, _-_, _%_, _<_, _≤_}
 use native.Mathlib.Nat.{mul-le-mul, le-refl, le-suc}
 use native.Mathlib.Decide.{decLe}

@@ -1,7 +1,7 @@
 -- Rows written one after another: the first i rows of r words, and what was there after them.
 use mathlib.Core.List.{List, [], _∷_, _++_, flatten, append-nil, append-assoc}
 use mathlib.Core.Path.{_≡_, refl, sym, ap, _∙_}
-use Prim.Native.Nat.{ℕ, zero, suc, _+_, _*_, _<_, _≤_}
+use Prim.Native.Nat.{ℕ, _+_, _*_, _<_, _≤_}
 use native.Mathlib.Nat.{mul-zero}
 use native.Mathlib.Numerals.{add-one}
 use native.Mathlib.Omega.{arith}
@@ -37,11 +37,11 @@ module _ {r : ℕ} {g : ℕ → List ℕ} {before : List ℕ} where
       let place : r * i + length row ≡ r * (i + 1) = omega arith in
       let start : take (r * i) l ≡ head = ap (take (r * i)) (w .is) ∙ take-at head (drop (r * i) before) (r * i) (w .head) in
       let rest : drop (r * i + length row) l ≡ drop (r * i + length row) before =
-          sym (drop-drop (length row) (r * i) l)
-          ∙ ap (λ t. drop (length row) t) (ap (drop (r * i)) (w .is) ∙ drop-at head (drop (r * i) before) (r * i) (w .head))
-          ∙ drop-drop (length row) (r * i) before in
+      sym (drop-drop (length row) (r * i) l)
+      ∙ ap (λ t. drop (length row) t) (ap (drop (r * i)) (w .is) ∙ drop-at head (drop (r * i) before) (r * i) (w .head))
+      ∙ drop-drop (length row) (r * i) before in
       let pasted : paste l (r * i) row (length row) ≡ flatten (table (i + 1) g) ++ drop (r * i + length row) before =
-          rw (start, rest, take-length row, flatten-suc i g) in
+      rw (start, rest, take-length row, flatten-suc i g) in
       record {
         is = put ∙ pasted ∙ ap (λ n. flatten (table (i + 1) g) ++ drop n before) place;
         head = ap length (flatten-suc i g) ∙ length-append (flatten (table i g)) (g i) ∙ omega (arith, w .head);

@@ -2,6 +2,7 @@
 ghost use mathlib.Core.Path.{_≡_};
 ghost use Rattle.simd.specs.Basic.{isWidth};
 ghost use Rattle.expansion.specs.Call.{sizeRefusal, expandRefusal};
+
 mod inner;
 mod matrix;
 mod output;

@@ -60,12 +60,8 @@ fn lower(pairs: &[u32], quarter: usize, out: &mut [u32])
 
 // All rows of Z: two quarters of its words are the pairs by 185.
 fn joined_rows(by185: &[u16], pairs: &[u32], quarter: usize, out: &mut [u32])
-    requires {
-        ⌜ (length (now by185) ≡ 4 * quarter) × ((length (now pairs) ≡ 2 * quarter) × (length (now out) ≡ 4 * quarter)) ⌝
-    }
-    ensures {
-        λ _. ⌜ now (out .exit) ≡ table (2 * quarter) (neighbours (now (by185 .entry))) ++ lowerOf quarter (now (pairs .entry)) ⌝
-    }
+    requires { ⌜ (length (now by185) ≡ 4 * quarter) × ((length (now pairs) ≡ 2 * quarter) × (length (now out) ≡ 4 * quarter)) ⌝ }
+    ensures { λ _. ⌜ now (out .exit) ≡ table (2 * quarter) (neighbours (now (by185 .entry))) ++ lowerOf quarter (now (pairs .entry)) ⌝ }
 {
     let at = 2 * quarter;
     words(by185, at, &mut out[..at]);
@@ -73,7 +69,14 @@ fn joined_rows(by185: &[u16], pairs: &[u32], quarter: usize, out: &mut [u32])
 }
 
 // The words of Z in the order of its rows, from the values of the transform.
-fn assemble(y: &[u16], quarter: usize, by185: &mut [u16], by233: &mut [u16], pairs: &mut [u32], flat: &mut [u32])
+fn assemble(
+    y: &[u16],
+    quarter: usize,
+    by185: &mut [u16],
+    by233: &mut [u16],
+    pairs: &mut [u32],
+    flat: &mut [u32],
+)
     requires { ⌜ Buffers quarter (now y) (now by185) (now by233) (now pairs) (now flat) ⌝ }
     ensures { λ _. ⌜ now (flat .exit) ≡ table (4 * quarter) (flatOf quarter (λ k. getD (now (y .entry)) k 0)) ⌝ }
 {
@@ -85,10 +88,8 @@ fn assemble(y: &[u16], quarter: usize, by185: &mut [u16], by233: &mut [u16], pai
 // One row of four words.
 fn row_small(words: &[u32], i: usize) -> [u32; 4]
     requires { ⌜ (length (now words) ≡ 128) × (i < 32) ⌝ }
-    ensures {
-        λ r. let w = now (words .entry) in let at = 4 * i in
-        ⌜ r ≡ getD w at 0 ∷ getD w (at + 1) 0 ∷ getD w (at + 2) 0 ∷ getD w (at + 3) 0 ∷ [] ⌝
-    }
+    ensures { λ r. let w = now (words .entry) in let at = 4 * i in
+        ⌜ r ≡ getD w at 0 ∷ getD w (at + 1) 0 ∷ getD w (at + 2) 0 ∷ getD w (at + 3) 0 ∷ [] ⌝ }
 {
     let at = 4 * i;
     [words[at], words[at + 1], words[at + 2], words[at + 3]]
@@ -97,10 +98,8 @@ fn row_small(words: &[u32], i: usize) -> [u32; 4]
 // One row of eight words.
 fn row_large(words: &[u32], i: usize) -> [u32; 8]
     requires { ⌜ (length (now words) ≡ 256) × (i < 32) ⌝ }
-    ensures {
-        λ r. let w = now (words .entry) in let at = 8 * i in
-        ⌜ r ≡ getD w at 0 ∷ getD w (at + 1) 0 ∷ getD w (at + 2) 0 ∷ getD w (at + 3) 0 ∷ getD w (at + 4) 0 ∷ getD w (at + 5) 0 ∷ getD w (at + 6) 0 ∷ getD w (at + 7) 0 ∷ [] ⌝
-    }
+    ensures { λ r. let w = now (words .entry) in let at = 8 * i in
+        ⌜ r ≡ getD w at 0 ∷ getD w (at + 1) 0 ∷ getD w (at + 2) 0 ∷ getD w (at + 3) 0 ∷ getD w (at + 4) 0 ∷ getD w (at + 5) 0 ∷ getD w (at + 6) 0 ∷ getD w (at + 7) 0 ∷ [] ⌝ }
 {
     let at = 8 * i;
     [

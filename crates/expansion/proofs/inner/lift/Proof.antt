@@ -1,12 +1,8 @@
 -- At most 128, y is its own lift; above, y - 257 is.
-use mathlib.Core.Path.{_≡_, sym}
-use Prim.Native.Nat.{_<_, _^_}
+use mathlib.Core.Path.{sym}
 use native.Mathlib.Omega.{arith}
-use lib.Signed.{mag}
-use lib.IntN.{pos, _-ℤ_}
 use mir.Facts.{toZ-pos, toZ-ofZ}
 use mir.Syntax.{w32}
-use mir.Val.{SFits, toZ}
 use borrow.Author.Needs.{needs}
 use Rattle.expansion.proofs.Signed.{lift-low, lift-high, centred}
 use Rattle.expansion.proofs.inner.lift.Statement.{statement}

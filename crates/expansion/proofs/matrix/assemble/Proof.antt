@@ -1,11 +1,3 @@
-use mathlib.Core.List.{_++_}
-use mathlib.Core.Path.{_≡_, sym, ap, _∙_}
-use Prim.Native.Nat.{_*_}
-use native.Mathlib.Omega.{arith}
-use lib.ListN.{length}
-use lib.Seq.{length-take-le}
-use Rattle.laws.proofs.Table.{length-table}
-use Rattle.expansion.specs.Layers.{neighbours, lower}
 use Rattle.expansion.proofs.Assembly.{flat-of}
 use borrow.Author.Needs.{needs}
 use Rattle.expansion.proofs.matrix.assemble.Statement.{statement}

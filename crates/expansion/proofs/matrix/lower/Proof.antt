@@ -1,10 +1,6 @@
-use mathlib.Core.List.{_++_}
-use mathlib.Core.Path.{_≡_, sym, ap, _∙_}
-use Prim.Native.Nat.{_*_}
+use mathlib.Core.Path.{sym}
 use native.Mathlib.Omega.{arith}
-use lib.ListN.{length}
 use lib.Seq.{length-take-le}
-use Rattle.laws.proofs.Table.{length-table}
 use Rattle.expansion.specs.Layers.{halvesApart, lower}
 use Rattle.expansion.proofs.Assembly.{two-parts}
 use borrow.Author.Needs.{needs}

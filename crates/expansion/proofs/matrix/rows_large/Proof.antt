@@ -1,11 +1,6 @@
 use mathlib.Core.List.{[]}
-use mathlib.Core.Path.{_≡_, refl, sym, _∙_}
-use Prim.Native.Nat.{ℕ, _+_, _*_, _-_, _≤_, _<_}
-use native.Mathlib.Nat.{add-zero}
-use native.Mathlib.Omega.{arith}
-use lib.ListN.{length, getD}
-use Rattle.simd.specs.Basic.{table}
-use Rattle.simd.specs.Constants.{order}
+use mathlib.Core.Path.{refl}
+use Prim.Native.Nat.{_-_, _≤_}
 use Rattle.laws.proofs.Fill.{Filled, filled-none, filled-more, filled-all}
 use Rattle.expansion.specs.Layers.{row}
 use Rattle.expansion.proofs.Rows.{row-eight}

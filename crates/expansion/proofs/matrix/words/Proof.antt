@@ -1,8 +1,4 @@
-use mathlib.Core.Path.{_≡_, refl}
-use Prim.Native.Nat.{ℕ, _+_, _*_, _-_, _≤_, _<_}
-use native.Mathlib.Omega.{arith}
-use lib.ListN.{length, getD}
-use Rattle.simd.specs.Basic.{table}
+use Prim.Native.Nat.{_-_, _≤_}
 use Rattle.laws.proofs.Fill.{Filled, filled-none, filled-more, filled-all}
 use Rattle.expansion.specs.Layers.{neighbours}
 use borrow.Author.Needs.{needs}

@@ -1,8 +1,8 @@
-use mathlib.Core.List.{[], _++_, flatten}
-use mathlib.Core.Path.{_≡_, refl, sym, ap, _∙_}
-use Prim.Native.Nat.{ℕ, _-_, _≤_}
+use mathlib.Core.List.{[]}
+use mathlib.Core.Path.{sym}
+use Prim.Native.Nat.{_-_, _≤_}
 use native.Mathlib.Omega.{arith}
-use lib.ListN.{length, getD}
+use lib.ListN.{getD}
 use Rattle.expansion.proofs.Written.{Written, written-none, written-more, written-all}
 use borrow.Author.Needs.{needs}
 use Rattle.expansion.proofs.output.put_small.Statement.{statement}
