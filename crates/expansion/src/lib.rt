@@ -3,8 +3,6 @@ ghost use mathlib.Core.Path.{_≡_};
 ghost use Rattle.simd.specs.Basic.{isWidth};
 ghost use Rattle.expansion.specs.Call.{sizeRefusal, expandRefusal};
 
-mod inner;
-mod matrix;
 mod output;
 
 // Whether there is a digest of this width.

@@ -4,7 +4,7 @@ ghost use mathlib.Core.Path.{_≡_};
 ghost use Prim.Native.Nat.{_+_, _≤_};
 ghost use lib.ListN.{length, drop};
 ghost use lib.Seq.{paste};
-ghost use Rattle.expansion.specs.Layers.{IsRows};
+ghost use Rattle.expansion.specs.Output.{IsRows};
 
 // One row, from place at on.
 fn put_row(row: &[u32], at: usize, out: &mut [u32])
