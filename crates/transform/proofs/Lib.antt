@@ -1,1 +1,5 @@
-pub mod Tables
+pub mod Constants
+pub mod Level
+pub mod Product
+pub mod Pairs
+pub mod Stages
