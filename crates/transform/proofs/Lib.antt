@@ -2,4 +2,5 @@ pub mod Constants
 pub mod Level
 pub mod Product
 pub mod Pairs
+pub mod Roots
 pub mod Stages

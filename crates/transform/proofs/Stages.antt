@@ -29,7 +29,7 @@ module _ (t : List ℕ) (roots : Roots t) where
       ap (λ v. getD t (v + k) 0) whole ∙ roots .last-row k (omega arith) ∙ ap (power 41) (omega arith)
   root-at (suc j) l k order h =
       let half = fits j l order in
-      roots .each-row (l + k) (omega arith)
+      roots .each-row (l + k) (omega arith) (omega arith)
       ∙ ap (λ v. getD t v 0) (omega arith)
       ∙ root-at j (2 * l) (2 * k) (sym (doubled j l) ∙ order) (omega arith)
       ∙ ap (power 41) (sym (doubled j k))

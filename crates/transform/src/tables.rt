@@ -2,9 +2,11 @@
 // A constant array is built anew wherever it is named: a caller takes a table once and lends it for many blocks.
 ghost use mathlib.Core.Bool.{Bool};
 ghost use mathlib.Core.Path.{_≡_};
-ghost use Prim.Native.Nat.{ℕ, _+_, _*_, _%_};
+ghost use Prim.Native.Nat.{ℕ, _+_, _*_, _%_, _<_};
+ghost use lib.ListN.{length, getD};
 ghost use Rattle.simd.specs.Basic.{small as smallFamily, large as largeFamily, table};
 ghost use Rattle.simd.specs.Expansion.{power, added};
+ghost use Rattle.transform.specs.Stage.{Halved, Roots};
 
 // The powers of 41 modulo 257.
 const POWERS: [u16; 256] = [
@@ -1063,4 +1065,56 @@ pub fn added_large(last: bool) -> [u16; 256]
     ensures { λ r. ⌜ r ≡ table 256 (λ i. added largeFamily last i % 257) ⌝ }
 {
     if last { LARGE_LENGTH } else { LARGE_MESSAGE }
+}
+
+// The last row of roots: the first 128 powers.
+fn last_row(powers: &[u16], t: &mut [u16])
+    requires { ⌜ (length (now powers) ≡ 256) × (length (now t) ≡ 512) ⌝ }
+    ensures { λ r. ⌜ ((k : ℕ) → k < 128 → getD (now (t .exit)) (128 + k) 0 ≡ getD (now (powers .entry)) k 0) ⌝ }
+{
+    let mut k = 0;
+    while k < 128 {
+        t[128 + k] = powers[k];
+        k += 1;
+    }
+}
+
+// The rows before it, from the last to the first.
+fn earlier_rows(t: &mut [u16])
+    requires { ⌜ length (now t) ≡ 512 ⌝ }
+    requires { ⌜ ((k : ℕ) → k < 128 → getD (now t) (128 + k) 0 < 257) ⌝ }
+    ensures { λ r. ⌜ ((k : ℕ) → k < 128 → getD (now (t .exit)) (128 + k) 0 ≡ getD (now (t .entry)) (128 + k) 0) ⌝ }
+    ensures { λ r. ⌜ Halved (now (t .exit)) 1 ⌝ }
+{
+    let mut i = 128;
+    while 1 < i {
+        i -= 1;
+        t[i] = t[2 * i];
+    }
+}
+
+// The products by 255.
+fn scaled_rows(t: &mut [u16])
+    requires { ⌜ length (now t) ≡ 512 ⌝ }
+    requires { ⌜ ((i : ℕ) → 0 < i → i < 256 → getD (now t) i 0 < 257) ⌝ }
+    ensures { λ r. ⌜ ((i : ℕ) → i < 256 → getD (now (t .exit)) i 0 ≡ getD (now (t .entry)) i 0) ⌝ }
+    ensures { λ r. ⌜ ((i : ℕ) → 0 < i → i < 256 → getD (now (t .exit)) (256 + i) 0 ≡ 255 * getD (now (t .entry)) i 0) ⌝ }
+{
+    let mut j = 0;
+    while j < 255 {
+        t[257 + j] = 255 * t[1 + j];
+        j += 1;
+    }
+}
+
+// The table of roots.
+pub fn roots() -> [u16; 512]
+    ensures { λ r. ⌜ Roots r ⌝ }
+{
+    let p = powers();
+    let mut t = [0u16; 512];
+    last_row(&p, &mut t);
+    earlier_rows(&mut t);
+    scaled_rows(&mut t);
+    t
 }

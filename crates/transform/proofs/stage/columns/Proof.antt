@@ -48,7 +48,7 @@ column-requires c κs =
       (
         (omega arith, omega arith),
         (
-          (roots .below at (omega arith), roots .scaled at (omega arith)),
+          (roots .below at (omega arith) (omega arith), roots .scaled at (omega arith) (omega arith)),
           (λ q h. subst (λ p. getD (a .x .now) p 0 ≤ 60000) (omega arith) (s .pre .1 .1 .1 (loop .k) q (omega arith) (omega arith))),
         ),
       ),

@@ -67,7 +67,7 @@ product-requires c κs =
     let s = c .before .before .before .before .before .before .before .before .before in
     let roots = s .pre .1 .1 .0 .1 in
     let at = s .args .l + c .before .before .before .before .before .loop .k in
-    (roots .below at (omega arith), roots .scaled at (omega arith))
+    (roots .below at (omega arith) (omega arith), roots .scaled at (omega arith) (omega arith))
 
 add-y : tie.Need-add-y Inv-loop μ-loop
 add-y c = omega (arith, c .before .before .before .before .before .before .before .before .before .before .pre .1 .1 .1 (c .before .before .before .before .before .before .loop .k) (omega arith))
