@@ -4,3 +4,4 @@ pub mod Product
 pub mod Pairs
 pub mod Roots
 pub mod Stages
+pub mod Whole
