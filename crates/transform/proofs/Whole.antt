@@ -100,3 +100,12 @@ module _ (f : Family) (last : Bool) (b : List ℕ) (e half n bound : ℕ) (sizes
         let value = same-trans (same-of (sym place)) (same-trans (record { same = level .value i 0 h (omega arith) }) (same-of (whole-sum i))) in
         let constant = same-trans (same-of (ap (λ l. getD l i 0) constants ∙ getD-table n (λ i. added f last i % 257) i 0 h)) (same-mod (added f last i)) in
         sums i h ∙ same-add value constant .same)
+
+-- What the last loop asks of the last level and of the constants.
+pub last-bound : (a : ℕ → ℕ) (e n b : ℕ) (y : List ℕ) → Level a e 1 n b (λ k q. q * n + k) y → (i : ℕ) → i < n → getD y i 0 ≤ b
+last-bound a e n b y level i h =
+    let place : 0 * n + i ≡ i = omega arith in
+    subst (λ p. getD y p 0 ≤ b) place (level .bound i 0 h (omega arith))
+
+pub constant-below : (n : ℕ) (g : ℕ → ℕ) (c : List ℕ) → c ≡ table n (λ i. g i % 257) → (i : ℕ) → i < n → getD c i 0 < 257
+constant-below n g c e i h = omega (arith, ap (λ l. getD l i 0) e ∙ getD-table n (λ i. g i % 257) i 0 h)
