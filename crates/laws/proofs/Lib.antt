@@ -2,3 +2,4 @@ pub mod Table
 pub mod Sum
 pub mod Fill
 pub mod Append
+pub mod Field
