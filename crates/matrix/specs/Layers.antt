@@ -1,12 +1,12 @@
 -- The parts in which the matrix Z is worked out. Each is a function on places: a list of n of them is `table n` of it.
 use mathlib.Core.Bool.{cond}
-use mathlib.Core.List.{List, [], _++_}
+use mathlib.Core.List.{List, _++_}
 use mathlib.Core.Path.{_≡_}
 use Prim.Native.Nat.{ℕ, _+_, _*_, _-_, _/_, _%_, _^_, _<_}
 use lib.Dec.{ltb}
 use lib.ListN.{length, getD}
 use Rattle.simd.specs.Basic.{table}
-use Rattle.simd.specs.Expansion.{code, pair}
+use Rattle.simd.specs.Expansion.{pair}
 
 -- The word of codes 2 k and 2 k + 1, the low half first.
 unfoldable pub neighbours : List ℕ → ℕ → ℕ
