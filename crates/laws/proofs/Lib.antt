@@ -1,5 +1,7 @@
 pub mod Table
 pub mod Sum
+pub mod Fill
+pub mod Append
 pub mod Field
 pub mod Below
 pub mod Regroup
