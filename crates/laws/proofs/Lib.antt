@@ -1,3 +1,4 @@
 pub mod Table
 pub mod Sum
 pub mod Field
+pub mod Stores

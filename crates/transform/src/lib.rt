@@ -1,15 +1,14 @@
 // The transform of both families: the number-theoretic transform modulo 257 that splits even and odd places (section 1.2.2).
-ghost use mathlib.Core.Bool.{Bool};
 ghost use mathlib.Core.Path.{_≡_};
-ghost use Prim.Native.Nat.{ℕ, _%_};
+ghost use Prim.Native.Nat.{_%_};
 ghost use lib.ListN.{length};
 ghost use Rattle.simd.specs.Basic.{small as smallFamily, large as largeFamily, table};
 ghost use Rattle.simd.specs.Expansion.{added as addedTo, transform};
-ghost use Rattle.transform.specs.Stage.{Roots};
+ghost use Rattle.transform_tables.specs.Roots.{Roots};
 
 pub mod stage;
-pub mod tables;
-// The transform of a block of the small family, written to out. The tables are those of `tables::roots` and `tables::added_small`.
+
+// The transform of a block of the small family, written to out. The tables are those of `transform_tables::roots` and `transform_tables::added_small`.
 // The first two stages run over neighbouring places of the block. Then the eight values of a place are brought side by side, and the other
 // stages run over these. They work on local arrays, which cannot overlap a table: so the loops become vector code with no test.
 pub fn small(block: &[u8], roots: &[u16], added: &[u16], out: &mut [u16], last: bool)
@@ -33,7 +32,7 @@ pub fn small(block: &[u8], roots: &[u16], added: &[u16], out: &mut [u16], last: 
     stage::finish(&y, added, out, 128);
 }
 
-// The same for a block of the large family, with `tables::added_large`.
+// The same for a block of the large family, with `transform_tables::added_large`.
 pub fn large(block: &[u8], roots: &[u16], added: &[u16], out: &mut [u16], last: bool)
     requires { ⌜ (length (now block) ≡ 128) × (length (now out) ≡ 256) ⌝ }
     requires { ⌜ Roots (now roots) ⌝ }

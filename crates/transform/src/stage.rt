@@ -4,7 +4,8 @@ ghost use mathlib.Core.List.{List};
 ghost use mathlib.Core.Path.{_≡_};
 ghost use Prim.Native.Nat.{ℕ, _+_, _*_, _%_, _≤_, _<_};
 ghost use lib.ListN.{length, getD};
-ghost use Rattle.transform.specs.Stage.{Butterfly, Leads, Roots};
+ghost use Rattle.transform.specs.Stage.{Butterfly, Leads};
+ghost use Rattle.transform_tables.specs.Roots.{Roots};
 
 // f times y modulo 257, below 513: f y - 257 q, where q is 255 f y / 65536 and so at most f y / 257, and less by less than 2.
 fn product(f: u16, g: u16, y: u16) -> u16

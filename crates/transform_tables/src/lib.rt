@@ -1,12 +1,11 @@
 // The constant tables: the powers of 41 modulo 257, the added constants (section 1.2.2), and the roots that the transform reads.
 // A constant array is built anew wherever it is named: a caller takes a table once and lends it for many blocks.
-ghost use mathlib.Core.Bool.{Bool};
 ghost use mathlib.Core.Path.{_≡_};
 ghost use Prim.Native.Nat.{ℕ, _+_, _*_, _%_, _<_};
 ghost use lib.ListN.{length, getD};
 ghost use Rattle.simd.specs.Basic.{small as smallFamily, large as largeFamily, table};
 ghost use Rattle.simd.specs.Expansion.{power, added};
-ghost use Rattle.transform.specs.Stage.{Halved, Roots};
+ghost use Rattle.transform_tables.specs.Roots.{Halved, Roots};
 
 // The powers of 41 modulo 257.
 const POWERS: [u16; 256] = [
