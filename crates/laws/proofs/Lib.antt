@@ -7,3 +7,4 @@ pub mod Below
 pub mod Regroup
 pub mod Roots
 pub mod Words
+pub mod Stores

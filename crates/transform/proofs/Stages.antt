@@ -8,7 +8,8 @@ use native.Mathlib.Omega.{arith}
 use lib.ListN.{getD}
 use lib.Pow.{pow-pos}
 use Rattle.simd.specs.Expansion.{power}
-use Rattle.transform.specs.Stage.{Level, Leads, Butterfly, Roots}
+use Rattle.transform.specs.Stage.{Level, Leads, Butterfly}
+use Rattle.transform_tables.specs.Roots.{Roots}
 use Rattle.transform.proofs.Level.{next}
 
 -- One place more is still within the whole.
