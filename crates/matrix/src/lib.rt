@@ -1,5 +1,5 @@
 // The matrix Z and its order P (section 1.2.2). Z is worked out as one string of words, in loops that become vector code, and cut into rows.
-ghost use mathlib.Core.List.{[], _++_};
+ghost use mathlib.Core.List.{[], _∷_, _++_};
 ghost use mathlib.Core.Path.{_≡_};
 ghost use Prim.Native.Nat.{ℕ, _+_, _*_, _<_, _≤_};
 ghost use lib.ListN.{length, getD};
@@ -84,32 +84,33 @@ fn assemble(
     joined_rows(&*by185, &*pairs, quarter, flat);
 }
 
-// One row of four words.
+// One row of four words. Each is named: a loop over them would become one more copy of all words.
 fn row_small(words: &[u32], i: usize) -> [u32; 4]
     requires { ⌜ (length (now words) ≡ 128) × (i < 32) ⌝ }
-    ensures { λ r. ⌜ r ≡ row 4 (now (words .entry)) i ⌝ }
+    ensures { λ r. let w = now (words .entry) in let at = 4 * i in
+        ⌜ r ≡ getD w at 0 ∷ getD w (at + 1) 0 ∷ getD w (at + 2) 0 ∷ getD w (at + 3) 0 ∷ [] ⌝ }
 {
-    let mut r = [0u32; 4];
-    let mut j: usize = 0;
-    while j < 4 {
-        r[j] = words[4 * i + j];
-        j += 1;
-    }
-    r
+    let at = 4 * i;
+    [words[at], words[at + 1], words[at + 2], words[at + 3]]
 }
 
-// One row of eight words.
+// One row of eight words, as above.
 fn row_large(words: &[u32], i: usize) -> [u32; 8]
     requires { ⌜ (length (now words) ≡ 256) × (i < 32) ⌝ }
-    ensures { λ r. ⌜ r ≡ row 8 (now (words .entry)) i ⌝ }
+    ensures { λ r. let w = now (words .entry) in let at = 8 * i in
+        ⌜ r ≡ getD w at 0 ∷ getD w (at + 1) 0 ∷ getD w (at + 2) 0 ∷ getD w (at + 3) 0 ∷ getD w (at + 4) 0 ∷ getD w (at + 5) 0 ∷ getD w (at + 6) 0 ∷ getD w (at + 7) 0 ∷ [] ⌝ }
 {
-    let mut r = [0u32; 8];
-    let mut j: usize = 0;
-    while j < 8 {
-        r[j] = words[8 * i + j];
-        j += 1;
-    }
-    r
+    let at = 8 * i;
+    [
+        words[at],
+        words[at + 1],
+        words[at + 2],
+        words[at + 3],
+        words[at + 4],
+        words[at + 5],
+        words[at + 6],
+        words[at + 7],
+    ]
 }
 
 // Words as 32 rows, filled row by row.

@@ -3,6 +3,7 @@ use mathlib.Core.Path.{refl}
 use Prim.Native.Nat.{_-_, _≤_}
 use Rattle.laws.proofs.Fill.{Filled, filled-none, filled-more, filled-all}
 use Rattle.matrix.specs.Layers.{row}
+use Rattle.matrix.proofs.Rows.{row-eight}
 use borrow.Author.Needs.{needs}
 use Rattle.matrix.proofs.rows_large.Statement.{statement}
 use Rattle.matrix.proofs.rows_large.Tie as tie
@@ -34,7 +35,7 @@ loop-less c = search needs
 loop-again : tie.Need-loop-again Inv-loop μ-loop
 loop-again c =
     let at = c .before .before in
-    (search needs, filled-more (at .loop .inv .1) (search needs) (c .row-large .ensures))
+    (search needs, filled-more (at .loop .inv .1) (search needs) (row-eight (at .before .before .args .words .now) (at .loop .i) (c .row-large .ensures)))
 
 returns : tie.Need-returns Inv-loop μ-loop
 returns c = filled-all (c .before .loop .inv .1) (search needs)
