@@ -84,7 +84,7 @@ fn assemble(
     joined_rows(&*by185, &*pairs, quarter, flat);
 }
 
-// One row of four words.
+// One row of four words. Each is named: a loop over them would become one more copy of all words.
 fn row_small(words: &[u32], i: usize) -> [u32; 4]
     requires { ⌜ (length (now words) ≡ 128) × (i < 32) ⌝ }
     ensures { λ r. let w = now (words .entry) in let at = 4 * i in
@@ -94,7 +94,7 @@ fn row_small(words: &[u32], i: usize) -> [u32; 4]
     [words[at], words[at + 1], words[at + 2], words[at + 3]]
 }
 
-// One row of eight words.
+// One row of eight words, as above.
 fn row_large(words: &[u32], i: usize) -> [u32; 8]
     requires { ⌜ (length (now words) ≡ 256) × (i < 32) ⌝ }
     ensures { λ r. let w = now (words .entry) in let at = 8 * i in
