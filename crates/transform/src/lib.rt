@@ -6,7 +6,7 @@ ghost use Rattle.simd.specs.Basic.{small as smallFamily, large as largeFamily, 
 ghost use Rattle.simd.specs.Expansion.{added as addedTo, transform};
 ghost use Rattle.transform_tables.specs.Roots.{Roots};
 
-pub mod stage;
+mod stage;
 
 // The transform of a block of the small family, written to out. The tables are those of `transform_tables::roots` and `transform_tables::added_small`.
 // The first two stages run over neighbouring places of the block. Then the eight values of a place are brought side by side, and the other

@@ -1,6 +1,5 @@
 // The parts of the transform, for both families. Numbers are kept modulo 257 in 16 bits, and loops run over neighbouring places, so that
 // they become vector code.
-ghost use mathlib.Core.List.{List};
 ghost use mathlib.Core.Path.{_≡_};
 ghost use Prim.Native.Nat.{ℕ, _+_, _*_, _%_, _≤_, _<_};
 ghost use lib.ListN.{length, getD};

@@ -1,7 +1,6 @@
-use mathlib.Core.Path.{_≡_, refl, _∙_}
-use Prim.Native.Nat.{ℕ, _+_, _*_, _-_, _≤_, _<_}
+use Prim.Native.Nat.{_+_, _-_, _≤_}
 use native.Mathlib.Omega.{arith}
-use lib.ListN.{length, getD, length-set}
+use lib.ListN.{getD}
 use Rattle.laws.proofs.Stores.{Filled, filled-none, filled-more}
 use Rattle.transform_tables.proofs.last_row.Statement.{statement}
 use Rattle.transform_tables.proofs.last_row.Tie as tie
