@@ -1,3 +1,6 @@
+use mathlib.Core.List.{[]}
+use lib.ListN.{getD}
+use Rattle.unsteps.proofs.Columns.{word-d}
 use borrow.Author.Needs.{needs}
 use Rattle.unsteps.proofs.large.row.Statement.{statement}
 use Rattle.unsteps.proofs.large.row.Tie as tie
@@ -60,7 +63,9 @@ unmix-requires : tie.Need-unmix-requires
 unmix-requires c κs = search needs
 
 returns : tie.Need-returns
-returns c = ?
+returns c =
+    let p = c .before .before .before .before .before .before .before .before .before .args in
+    word-d (p .s) (getD (getD (p .st .now) 0 []) (p .j) 0) (getD (p .w .now) (p .j) 0) (getD (p .st .now) 1 []) (c .unmix .ensures) (c .before .chosen .ensures) (c .before .before .before .before .before .before .before .before .partner .ensures .0)
 
 pub row-spec : {M : Type 1} → statement M
 row-spec =

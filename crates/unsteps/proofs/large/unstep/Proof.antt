@@ -1,3 +1,8 @@
+use lib.Dec.{lit<}
+use Rattle.simd.specs.Basic.{large}
+use Rattle.words.specs.Columns.{fromColumns}
+use Rattle.unsteps.specs.Unstep.{oldD}
+use Rattle.unsteps.proofs.Columns.{eight-words, unstep-columns}
 use borrow.Author.Needs.{needs}
 use Rattle.unsteps.proofs.large.unstep.Statement.{statement}
 use Rattle.unsteps.proofs.large.unstep.Tie as tie
@@ -30,22 +35,36 @@ row-requires-3 : tie.Need-row-requires-3
 row-requires-3 c κs = search needs
 
 row-requires-4 : tie.Need-row-requires-4
-row-requires-4 c κs = ?
+row-requires-4 c κs = (c .before .before .before .before .before .before .before .before .before .before .before .before .before .before .before .before .before .before .before .before .rotation .ensures .1, lit< tt)
 
 row-requires-5 : tie.Need-row-requires-5
-row-requires-5 c κs = ?
+row-requires-5 c κs = (c .before .before .before .before .before .before .before .before .before .before .before .before .before .before .before .before .before .before .before .before .before .before .before .before .rotation .ensures .1, lit< tt)
 
 row-requires-6 : tie.Need-row-requires-6
-row-requires-6 c κs = ?
+row-requires-6 c κs = (c .before .before .before .before .before .before .before .before .before .before .before .before .before .before .before .before .before .before .before .before .before .before .before .before .before .before .before .before .rotation .ensures .1, lit< tt)
 
 row-requires-7 : tie.Need-row-requires-7
-row-requires-7 c κs = ?
+row-requires-7 c κs = (c .before .before .before .before .before .before .before .before .before .before .before .before .before .before .before .before .before .before .before .before .before .before .before .before .before .before .before .before .before .before .before .before .rotation .ensures .1, lit< tt)
 
 row-requires-8 : tie.Need-row-requires-8
-row-requires-8 c κs = ?
+row-requires-8 c κs = (c .before .before .before .before .before .before .before .before .before .before .before .before .before .before .before .before .before .before .before .before .before .before .before .before .before .before .before .before .before .before .before .before .before .before .before .before .rotation .ensures .1, lit< tt)
 
 returns : tie.Need-returns
-returns c = ?
+returns c =
+    let s = c .before .before .before .before .before .before .before .before .before .before .before .before .before .before .before .before .before .before .before .before .before .before .before .before .before .before .before .before .before .before .before .before .before .before .before .before .before .before in
+    let a = c .before .before .before .before .before .before .before .before .before .before .before .before .before .before .before .before .before .before .before .before .before .before .before .before .before .before .before .before .before .before .before .before .before .before .old-a .result in
+    let d =
+    eight-words (oldD large (s .args .i) (c .before .before .before .before .before .before .before .before .before .before .before .before .before .before .before .before .before .before .before .before .before .before .before .before .before .before .before .before .before .before .before .before .before .before .before .before .before .rotation .result) (c .before .before .before .before .before .before .before .before .before .before .before .before .before .before .before .before .before .before .before .before .before .before .before .before .before .before .before .before .before .before .before .before .before .before .before .before .exchange .result) a (s .args .t2) (fromColumns (s .args .t1)))
+    (c .before .before .before .before .before .before .before .before .before .before .before .before .before .before .before .before .before .before .before .before .before .before .before .before .before .before .before .before .row .ensures)
+    (c .before .before .before .before .before .before .before .before .before .before .before .before .before .before .before .before .before .before .before .before .before .before .before .before .row2 .ensures)
+    (c .before .before .before .before .before .before .before .before .before .before .before .before .before .before .before .before .before .before .before .before .row3 .ensures)
+    (c .before .before .before .before .before .before .before .before .before .before .before .before .before .before .before .before .row4 .ensures)
+    (c .before .before .before .before .before .before .before .before .before .before .before .before .row5 .ensures)
+    (c .before .before .before .before .before .before .before .before .row6 .ensures)
+    (c .before .before .before .before .row7 .ensures)
+    (c .row8 .ensures)
+    in
+    unstep-columns large (s .args .i) (s .args .t2) (fromColumns (s .args .t1)) (c .before .before .before .before .before .before .before .before .before .before .before .before .before .before .before .before .before .before .before .before .before .before .before .before .before .before .before .before .before .before .before .before .before .before .old-a .ensures) (c .before .before .before .before .before .before .before .before .before .before .before .before .before .before .before .before .before .before .before .before .before .before .before .before .before .before .before .before .before .before .before .before .before .before .before .before .before .rotation .ensures .0) (c .before .before .before .before .before .before .before .before .before .before .before .before .before .before .before .before .before .before .before .before .before .before .before .before .before .before .before .before .before .before .before .before .before .before .before .before .exchange .ensures) d
 
 pub unstep-spec : {M : Type 1} → statement M
 unstep-spec =

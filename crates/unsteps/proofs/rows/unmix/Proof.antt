@@ -15,7 +15,7 @@ difference-requires-3 : tie.Need-difference-requires-3
 difference-requires-3 c κs = search needs
 
 returns : tie.Need-returns
-returns c = ?
+returns c = cc
 
 pub unmix-spec : {M : Type 1} → statement M
 unmix-spec =

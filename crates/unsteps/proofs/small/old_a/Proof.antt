@@ -1,3 +1,9 @@
+use mathlib.Core.List.{[]}
+use mathlib.Core.Path.{ap, _∙_}
+use lib.ListN.{getD}
+use Rattle.simd.specs.Steps.{rotation}
+use Rattle.unsteps.specs.Unstep.{rotr, oldA}
+use Rattle.words.proofs.Columns.{four-words}
 use borrow.Author.Needs.{needs}
 use Rattle.unsteps.proofs.small.old_a.Statement.{statement}
 use Rattle.unsteps.proofs.small.old_a.Tie as tie
@@ -42,7 +48,15 @@ unrotate-requires-4 : tie.Need-unrotate-requires-4
 unrotate-requires-4 c κs = search needs
 
 returns : tie.Need-returns
-returns c = ?
+unfolding oldA
+returns c =
+    let s = c .before .before .before .before .before .before .before .before .before in
+    let r-is = c .before .before .before .before .before .before .before .before .rotation .ensures .0 in
+    four-words (λ j. rotr (rotation (s .args .i) (s .args .i)) (getD (getD (s .args .st .now) 1 []) j 0))
+    (c .before .before .before .before .before .before .unrotate .ensures ∙ ap (λ r. rotr r (getD (getD (s .args .st .now) 1 []) 0 0)) r-is)
+    (c .before .before .before .before .unrotate2 .ensures ∙ ap (λ r. rotr r (getD (getD (s .args .st .now) 1 []) 1 0)) r-is)
+    (c .before .before .unrotate3 .ensures ∙ ap (λ r. rotr r (getD (getD (s .args .st .now) 1 []) 2 0)) r-is)
+    (c .unrotate4 .ensures ∙ ap (λ r. rotr r (getD (getD (s .args .st .now) 1 []) 3 0)) r-is)
 
 pub old-a-spec : {M : Type 1} → statement M
 old-a-spec =

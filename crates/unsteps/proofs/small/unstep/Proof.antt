@@ -1,3 +1,9 @@
+use lib.Dec.{lit<}
+use Rattle.simd.specs.Basic.{small}
+use Rattle.words.specs.Columns.{fromColumns}
+use Rattle.unsteps.specs.Unstep.{oldD}
+use Rattle.words.proofs.Columns.{four-words}
+use Rattle.unsteps.proofs.Columns.{unstep-columns}
 use borrow.Author.Needs.{needs}
 use Rattle.unsteps.proofs.small.unstep.Statement.{statement}
 use Rattle.unsteps.proofs.small.unstep.Tie as tie
@@ -30,10 +36,20 @@ row-requires-3 : tie.Need-row-requires-3
 row-requires-3 c κs = search needs
 
 row-requires-4 : tie.Need-row-requires-4
-row-requires-4 c κs = ?
+row-requires-4 c κs = (c .before .before .before .before .before .before .before .before .before .before .before .before .before .before .before .before .before .before .before .before .rotation .ensures .1, lit< tt)
 
 returns : tie.Need-returns
-returns c = ?
+returns c =
+    let s = c .before .before .before .before .before .before .before .before .before .before .before .before .before .before .before .before .before .before .before .before .before .before in
+    let a = c .before .before .before .before .before .before .before .before .before .before .before .before .before .before .before .before .before .before .old-a .result in
+    let d =
+    four-words (oldD small (s .args .i) (c .before .before .before .before .before .before .before .before .before .before .before .before .before .before .before .before .before .before .before .before .before .rotation .result) (c .before .before .before .before .before .before .before .before .before .before .before .before .before .before .before .before .before .before .before .before .exchange .result) a (s .args .t2) (fromColumns (s .args .t1)))
+    (c .before .before .before .before .before .before .before .before .before .before .before .before .row .ensures)
+    (c .before .before .before .before .before .before .before .before .row2 .ensures)
+    (c .before .before .before .before .row3 .ensures)
+    (c .row4 .ensures)
+    in
+    unstep-columns small (s .args .i) (s .args .t2) (fromColumns (s .args .t1)) (c .before .before .before .before .before .before .before .before .before .before .before .before .before .before .before .before .before .before .old-a .ensures) (c .before .before .before .before .before .before .before .before .before .before .before .before .before .before .before .before .before .before .before .before .before .rotation .ensures .0) (c .before .before .before .before .before .before .before .before .before .before .before .before .before .before .before .before .before .before .before .before .exchange .ensures) d
 
 pub unstep-spec : {M : Type 1} → statement M
 unstep-spec =
