@@ -1,10 +1,10 @@
 pub mod Table
 pub mod Sum
+pub mod Words
 pub mod Fill
 pub mod Append
 pub mod Field
 pub mod Below
 pub mod Regroup
 pub mod Roots
-pub mod Words
 pub mod Stores

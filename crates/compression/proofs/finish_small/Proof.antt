@@ -1,0 +1,44 @@
+use mathlib.Core.Bool.{true}
+use mathlib.Core.Path.{ap, _∙_}
+use Rattle.simd.specs.Basic.{small}
+use Rattle.simd.specs.Steps.{compression}
+use borrow.Author.Needs.{needs}
+use Rattle.compression.proofs.finish_small.Statement.{statement}
+use Rattle.compression.proofs.finish_small.Tie as tie
+
+roots-requires : tie.Need-roots-requires
+roots-requires c κs = search needs
+
+added-small-requires : tie.Need-added-small-requires
+added-small-requires c κs = search needs
+
+length-small-requires : tie.Need-length-small-requires
+length-small-requires c κs = search needs
+
+slice-aggregate-compress : tie.Need-slice-aggregate-compress
+slice-aggregate-compress c = search needs
+
+slice-aggregate-compress-2 : tie.Need-slice-aggregate-compress-2
+slice-aggregate-compress-2 c = search needs
+
+slice-aggregate-compress-3 : tie.Need-slice-aggregate-compress-3
+slice-aggregate-compress-3 c = search needs
+
+compress-requires : tie.Need-compress-requires
+compress-requires c κs = search needs
+
+returns : tie.Need-returns
+returns c = c .compress .ensures ∙ ap (compression small true (c .before .before .before .before .before .before .before .before .args .state .now)) (c .before .before .before .before .before .length-small .ensures)
+
+pub finish-small-spec : {M : Type 1} → statement M
+finish-small-spec =
+    tie.close
+    (tie.spec
+    roots-requires
+    added-small-requires
+    length-small-requires
+    slice-aggregate-compress
+    slice-aggregate-compress-2
+    slice-aggregate-compress-3
+    compress-requires
+    returns)

@@ -1,0 +1,272 @@
+use mathlib.Core.Path.{refl}
+use Rattle.simd.specs.Basic.{table}
+use Rattle.compression.specs.Flat.{flat}
+use borrow.Author.Needs.{needs}
+use Rattle.compression.proofs.large.flat.Statement.{statement}
+use Rattle.compression.proofs.large.flat.Tie as tie
+
+index-1-t7 : tie.Need-index-1-t7
+index-1-t7 c = search needs
+
+index-2-t7 : tie.Need-index-2-t7
+index-2-t7 c = search needs
+
+index-1-t12 : tie.Need-index-1-t12
+index-1-t12 c = search needs
+
+index-2-t12 : tie.Need-index-2-t12
+index-2-t12 c = search needs
+
+index-1-t17 : tie.Need-index-1-t17
+index-1-t17 c = search needs
+
+index-2-t17 : tie.Need-index-2-t17
+index-2-t17 c = search needs
+
+index-1-t22 : tie.Need-index-1-t22
+index-1-t22 c = search needs
+
+index-2-t22 : tie.Need-index-2-t22
+index-2-t22 c = search needs
+
+index-1-t27 : tie.Need-index-1-t27
+index-1-t27 c = search needs
+
+index-2-t27 : tie.Need-index-2-t27
+index-2-t27 c = search needs
+
+index-1-t32 : tie.Need-index-1-t32
+index-1-t32 c = search needs
+
+index-2-t32 : tie.Need-index-2-t32
+index-2-t32 c = search needs
+
+index-1-t37 : tie.Need-index-1-t37
+index-1-t37 c = search needs
+
+index-2-t37 : tie.Need-index-2-t37
+index-2-t37 c = search needs
+
+index-1-t42 : tie.Need-index-1-t42
+index-1-t42 c = search needs
+
+index-2-t42 : tie.Need-index-2-t42
+index-2-t42 c = search needs
+
+index-1-t47 : tie.Need-index-1-t47
+index-1-t47 c = search needs
+
+index-2-t47 : tie.Need-index-2-t47
+index-2-t47 c = search needs
+
+index-1-t52 : tie.Need-index-1-t52
+index-1-t52 c = search needs
+
+index-2-t52 : tie.Need-index-2-t52
+index-2-t52 c = search needs
+
+index-1-t57 : tie.Need-index-1-t57
+index-1-t57 c = search needs
+
+index-2-t57 : tie.Need-index-2-t57
+index-2-t57 c = search needs
+
+index-1-t62 : tie.Need-index-1-t62
+index-1-t62 c = search needs
+
+index-2-t62 : tie.Need-index-2-t62
+index-2-t62 c = search needs
+
+index-1-t67 : tie.Need-index-1-t67
+index-1-t67 c = search needs
+
+index-2-t67 : tie.Need-index-2-t67
+index-2-t67 c = search needs
+
+index-1-t72 : tie.Need-index-1-t72
+index-1-t72 c = search needs
+
+index-2-t72 : tie.Need-index-2-t72
+index-2-t72 c = search needs
+
+index-1-t77 : tie.Need-index-1-t77
+index-1-t77 c = search needs
+
+index-2-t77 : tie.Need-index-2-t77
+index-2-t77 c = search needs
+
+index-1-t82 : tie.Need-index-1-t82
+index-1-t82 c = search needs
+
+index-2-t82 : tie.Need-index-2-t82
+index-2-t82 c = search needs
+
+index-1-t87 : tie.Need-index-1-t87
+index-1-t87 c = search needs
+
+index-2-t87 : tie.Need-index-2-t87
+index-2-t87 c = search needs
+
+index-1-t92 : tie.Need-index-1-t92
+index-1-t92 c = search needs
+
+index-2-t92 : tie.Need-index-2-t92
+index-2-t92 c = search needs
+
+index-1-t97 : tie.Need-index-1-t97
+index-1-t97 c = search needs
+
+index-2-t97 : tie.Need-index-2-t97
+index-2-t97 c = search needs
+
+index-1-t102 : tie.Need-index-1-t102
+index-1-t102 c = search needs
+
+index-2-t102 : tie.Need-index-2-t102
+index-2-t102 c = search needs
+
+index-1-t107 : tie.Need-index-1-t107
+index-1-t107 c = search needs
+
+index-2-t107 : tie.Need-index-2-t107
+index-2-t107 c = search needs
+
+index-1-t112 : tie.Need-index-1-t112
+index-1-t112 c = search needs
+
+index-2-t112 : tie.Need-index-2-t112
+index-2-t112 c = search needs
+
+index-1-t117 : tie.Need-index-1-t117
+index-1-t117 c = search needs
+
+index-2-t117 : tie.Need-index-2-t117
+index-2-t117 c = search needs
+
+index-1-t122 : tie.Need-index-1-t122
+index-1-t122 c = search needs
+
+index-2-t122 : tie.Need-index-2-t122
+index-2-t122 c = search needs
+
+index-1-t127 : tie.Need-index-1-t127
+index-1-t127 c = search needs
+
+index-2-t127 : tie.Need-index-2-t127
+index-2-t127 c = search needs
+
+index-1-t132 : tie.Need-index-1-t132
+index-1-t132 c = search needs
+
+index-2-t132 : tie.Need-index-2-t132
+index-2-t132 c = search needs
+
+index-1-t137 : tie.Need-index-1-t137
+index-1-t137 c = search needs
+
+index-2-t137 : tie.Need-index-2-t137
+index-2-t137 c = search needs
+
+index-1-t142 : tie.Need-index-1-t142
+index-1-t142 c = search needs
+
+index-2-t142 : tie.Need-index-2-t142
+index-2-t142 c = search needs
+
+index-1-t147 : tie.Need-index-1-t147
+index-1-t147 c = search needs
+
+index-2-t147 : tie.Need-index-2-t147
+index-2-t147 c = search needs
+
+index-1-t152 : tie.Need-index-1-t152
+index-1-t152 c = search needs
+
+index-2-t152 : tie.Need-index-2-t152
+index-2-t152 c = search needs
+
+index-1-t157 : tie.Need-index-1-t157
+index-1-t157 c = search needs
+
+index-2-t157 : tie.Need-index-2-t157
+index-2-t157 c = search needs
+
+index-1-t162 : tie.Need-index-1-t162
+index-1-t162 c = search needs
+
+index-2-t162 : tie.Need-index-2-t162
+index-2-t162 c = search needs
+
+returns : tie.Need-returns
+unfolding flat table
+returns c = refl
+
+pub flat-spec : {M : Type 1} → statement M
+flat-spec =
+    tie.close
+    (tie.spec
+    index-1-t7
+    index-2-t7
+    index-1-t12
+    index-2-t12
+    index-1-t17
+    index-2-t17
+    index-1-t22
+    index-2-t22
+    index-1-t27
+    index-2-t27
+    index-1-t32
+    index-2-t32
+    index-1-t37
+    index-2-t37
+    index-1-t42
+    index-2-t42
+    index-1-t47
+    index-2-t47
+    index-1-t52
+    index-2-t52
+    index-1-t57
+    index-2-t57
+    index-1-t62
+    index-2-t62
+    index-1-t67
+    index-2-t67
+    index-1-t72
+    index-2-t72
+    index-1-t77
+    index-2-t77
+    index-1-t82
+    index-2-t82
+    index-1-t87
+    index-2-t87
+    index-1-t92
+    index-2-t92
+    index-1-t97
+    index-2-t97
+    index-1-t102
+    index-2-t102
+    index-1-t107
+    index-2-t107
+    index-1-t112
+    index-2-t112
+    index-1-t117
+    index-2-t117
+    index-1-t122
+    index-2-t122
+    index-1-t127
+    index-2-t127
+    index-1-t132
+    index-2-t132
+    index-1-t137
+    index-2-t137
+    index-1-t142
+    index-2-t142
+    index-1-t147
+    index-2-t147
+    index-1-t152
+    index-2-t152
+    index-1-t157
+    index-2-t157
+    index-1-t162
+    index-2-t162
+    returns)

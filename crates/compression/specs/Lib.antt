@@ -1,0 +1,3 @@
+-- What the contracts of the compression cite besides the definition of SIMD.
+pub mod Absorbed
+pub mod Flat

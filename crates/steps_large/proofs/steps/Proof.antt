@@ -1,0 +1,40 @@
+use Rattle.simd.specs.Basic.{large}
+use Rattle.words.proofs.Runs.{rounds}
+use borrow.Author.Needs.{needs}
+use Rattle.steps_large.proofs.steps.Statement.{statement}
+use Rattle.steps_large.proofs.steps.Tie as tie
+
+rotations-requires : tie.Need-rotations-requires
+rotations-requires c κs = search needs
+
+large-exchanges-requires : tie.Need-large-exchanges-requires
+large-exchanges-requires c κs = search needs
+
+round-0-requires : tie.Need-round-0-requires
+round-0-requires c κs = search needs
+
+round-1-requires : tie.Need-round-1-requires
+round-1-requires c κs = search needs
+
+round-2-requires : tie.Need-round-2-requires
+round-2-requires c κs = search needs
+
+round-3-requires : tie.Need-round-3-requires
+round-3-requires c κs = search needs
+
+returns : tie.Need-returns
+returns c =
+    let s = c .before .before .before .before .before .before .before .before .before .before .before .before .before .before in
+    rounds large (s .args .w .now) (s .args .st) (c .before .before .before .before .before .before .before .before .before .round-0 .ensures) (c .before .before .before .before .before .before .round-1 .ensures) (c .before .before .before .round-2 .ensures) (c .round-3 .ensures)
+
+pub steps-spec : {M : Type 1} → statement M
+steps-spec =
+    tie.close
+    (tie.spec
+    rotations-requires
+    large-exchanges-requires
+    round-0-requires
+    round-1-requires
+    round-2-requires
+    round-3-requires
+    returns)

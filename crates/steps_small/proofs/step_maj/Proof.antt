@@ -1,0 +1,145 @@
+use mathlib.Core.List.{[], _∷_}
+use Prim.Native.Nat.{_+_, _%_}
+use lib.ListN.{getD}
+use Rattle.simd.specs.Basic.{small}
+use Rattle.simd.specs.Steps.{MAJ}
+use Rattle.words.specs.Columns.{fromColumns, newA, newB, stepBy}
+use Rattle.words.proofs.Columns.{four-words}
+use borrow.Author.Needs.{needs}
+use Rattle.steps_small.proofs.step_maj.Statement.{statement}
+use Rattle.steps_small.proofs.step_maj.Tie as tie
+
+mul-r : tie.Need-mul-r
+mul-r c = search needs
+
+mul-r-2 : tie.Need-mul-r-2
+mul-r-2 c = search needs
+
+index-1-r : tie.Need-index-1-r
+index-1-r c = search needs
+
+index-2-r : tie.Need-index-2-r
+index-2-r c = search needs
+
+add-s : tie.Need-add-s
+add-s c = search needs
+
+mul-s : tie.Need-mul-s
+mul-s c = search needs
+
+mul-s-2 : tie.Need-mul-s-2
+mul-s-2 c = search needs
+
+index-1-s : tie.Need-index-1-s
+index-1-s c = search needs
+
+index-2-s : tie.Need-index-2-s
+index-2-s c = search needs
+
+mul-x : tie.Need-mul-x
+mul-x c = search needs
+
+element-copy-out-x : tie.Need-element-copy-out-x
+element-copy-out-x c = search needs
+
+row-maj-requires : tie.Need-row-maj-requires
+row-maj-requires c κs = search needs
+
+row-maj-requires-2 : tie.Need-row-maj-requires-2
+row-maj-requires-2 c κs = search needs
+
+row-maj-requires-3 : tie.Need-row-maj-requires-3
+row-maj-requires-3 c κs = search needs
+
+row-maj-requires-4 : tie.Need-row-maj-requires-4
+row-maj-requires-4 c κs = search needs
+
+index-1-rotate : tie.Need-index-1-rotate
+index-1-rotate c = search needs
+
+index-2-rotate : tie.Need-index-2-rotate
+index-2-rotate c = search needs
+
+rotate-requires : tie.Need-rotate-requires
+rotate-requires c κs = search needs
+
+index-1-rotate-2 : tie.Need-index-1-rotate-2
+index-1-rotate-2 c = search needs
+
+index-2-rotate-2 : tie.Need-index-2-rotate-2
+index-2-rotate-2 c = search needs
+
+rotate-requires-2 : tie.Need-rotate-requires-2
+rotate-requires-2 c κs = search needs
+
+index-1-rotate-3 : tie.Need-index-1-rotate-3
+index-1-rotate-3 c = search needs
+
+index-2-rotate-3 : tie.Need-index-2-rotate-3
+index-2-rotate-3 c = search needs
+
+rotate-requires-3 : tie.Need-rotate-requires-3
+rotate-requires-3 c κs = search needs
+
+index-1-rotate-4 : tie.Need-index-1-rotate-4
+index-1-rotate-4 c = search needs
+
+index-2-rotate-4 : tie.Need-index-2-rotate-4
+index-2-rotate-4 c = search needs
+
+rotate-requires-4 : tie.Need-rotate-requires-4
+rotate-requires-4 c κs = search needs
+
+array-copy-out-c : tie.Need-array-copy-out-c
+array-copy-out-c c = search needs
+
+array-copy-out-d : tie.Need-array-copy-out-d
+array-copy-out-d c = search needs
+
+returns : tie.Need-returns
+unfolding stepBy
+returns c =
+    let s = c .before .before .before .before .before .before .before .before .before .before .before .before .before .before .before .before .before .before .before .before .before .before .before .before .before in
+    let r = getD (getD (s .args .q .now) (s .args .n) []) (s .args .i % 4) 0 in
+    let q = getD (getD (s .args .q .now) (s .args .n) []) ((s .args .i + 1) % 4) 0 in
+    let x = getD (s .args .e .now) (s .args .i % 3) 0 in
+    let a = four-words (newA small MAJ r q x (s .args .t2) (fromColumns (s .args .t1)))
+    (c .before .before .before .before .before .before .before .before .before .before .before .before .before .before .before .before .before .before .before .row-maj .ensures) (c .before .before .before .before .before .before .before .before .before .before .before .before .before .before .before .before .row-maj2 .ensures) (c .before .before .before .before .before .before .before .before .before .before .before .before .before .row-maj3 .ensures) (c .before .before .before .before .before .before .before .before .before .before .row-maj4 .ensures) in
+    let b = four-words (newB r (fromColumns (s .args .t1)))
+    (c .before .before .before .before .before .before .before .before .rotate .ensures) (c .before .before .before .before .before .before .rotate2 .ensures) (c .before .before .before .before .rotate3 .ensures) (c .before .before .rotate4 .ensures) in
+    λ t. a t ∷ b t ∷ getD (s .args .t1) 1 [] ∷ getD (s .args .t1) 2 [] ∷ []
+
+pub step-maj-spec : {M : Type 1} → statement M
+step-maj-spec =
+    tie.close
+    (tie.spec
+    mul-r
+    mul-r-2
+    index-1-r
+    index-2-r
+    add-s
+    mul-s
+    mul-s-2
+    index-1-s
+    index-2-s
+    mul-x
+    element-copy-out-x
+    row-maj-requires
+    row-maj-requires-2
+    row-maj-requires-3
+    row-maj-requires-4
+    index-1-rotate
+    index-2-rotate
+    rotate-requires
+    index-1-rotate-2
+    index-2-rotate-2
+    rotate-requires-2
+    index-1-rotate-3
+    index-2-rotate-3
+    rotate-requires-3
+    index-1-rotate-4
+    index-2-rotate-4
+    rotate-requires-4
+    array-copy-out-c
+    array-copy-out-d
+    returns)

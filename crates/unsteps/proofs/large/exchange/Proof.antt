@@ -1,0 +1,17 @@
+use Rattle.simd.specs.Basic.{large}
+use Rattle.unsteps.proofs.Columns.{exchange-read}
+use borrow.Author.Needs.{needs}
+use Rattle.unsteps.proofs.large.exchange.Statement.{statement}
+use Rattle.unsteps.proofs.large.exchange.Tie as tie
+
+mul-result : tie.Need-mul-result
+mul-result c = search needs
+
+element-copy-out-result : tie.Need-element-copy-out-result
+element-copy-out-result c = search needs
+
+returns : tie.Need-returns
+returns c = exchange-read large (c .before .args .e .now) (c .before .pre) (c .before .args .i)
+
+pub exchange-spec : {M : Type 1} → statement M
+exchange-spec = tie.close (tie.spec mul-result element-copy-out-result returns)

@@ -1,0 +1,2 @@
+-- What the contracts of the backward steps cite besides the definition of SIMD.
+pub mod Unstep
