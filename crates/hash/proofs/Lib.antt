@@ -1,0 +1,4 @@
+pub mod Zeros
+pub mod Holding
+pub mod Feeding
+pub mod Theorems
