@@ -54,9 +54,9 @@ held-sized width n state tail bit =
   where
     fits : (i : ℕ) → getD (table 128 (byteOf tail)) i 0 < 256
     fits i = elim (decLt i 128) [
-        yes below ↦ rw (getD-table 128 (byteOf tail) i 0 below) (byte-lt tail i bit)
+      | yes below ↦ rw (getD-table 128 (byteOf tail) i 0 below) (byte-lt tail i bit)
       | no past ↦ rw (List·getD-eq-default (table 128 (byteOf tail)) 0 {n = i} (omega (arith, length-table 128 (byteOf tail)))) (lit< tt)
-      ]
+    ]
 
 module _ (h : Hash) (s : Sized h) (m : List ℕ) where
   pub joined-length : length (pending h ++ m) ≡ used h + length m
@@ -123,7 +123,7 @@ module _ (h : Hash) (s : Sized h) (m n : List ℕ) (bit : Bits m) where
       ≡ chain (family h) (reached h) (pending h ++ (m ++ n)) (fullBlocks h (length (m ++ n)))
   states =
       let first : chain (family h) (reached h) (pending h ++ m ++ n) (fullBlocks h (length m)) ≡ reached (advanced h m) =
-          chain-append (family h) (reached h) (pending h ++ m) n (fullBlocks h (length m)) front ∙ sym (advanced-state h s m bit) in
+      chain-append (family h) (reached h) (pending h ++ m) n (fullBlocks h (length m)) front ∙ sym (advanced-state h s m bit) in
       rw (blocks-append h m n, ← append-assoc (pending h) m n, behind, ← first)
       (sym (chain-add (family h) (reached h) (pending h ++ m ++ n) (fullBlocks h (length m)) (fullBlocks (advanced h m) (length n))))
 
@@ -131,7 +131,7 @@ module _ (h : Hash) (s : Sized h) (m n : List ℕ) (bit : Bits m) where
       ≡ drop (blockBits (family h) * fullBlocks h (length (m ++ n))) (pending h ++ (m ++ n))
   tails =
       let places : blockBits (family h) * fullBlocks h (length m) + blockBits (family h) * fullBlocks (advanced h m) (length n)
-              ≡ blockBits (family h) * (fullBlocks h (length m) + fullBlocks (advanced h m) (length n)) = omega arith in
+      ≡ blockBits (family h) * (fullBlocks h (length m) + fullBlocks (advanced h m) (length n)) = omega arith in
       rw (blocks-append h m n, ← append-assoc (pending h) m n, behind, drop-drop, places)
 
   pub advanced-append : advanced (advanced h m) n ≡ advanced h (m ++ n)
@@ -170,11 +170,11 @@ advanced-none h v good =
     let f = family h in
     let none = none-full f (h .bits) in
     let state : chain f (reached h) (pending h ++ []) ((used h + 0) / blockBits f) ≡ reached h =
-        ap (λ (k : ℕ). chain f (reached h) (pending h ++ []) k) none in
+    ap (λ (k : ℕ). chain f (reached h) (pending h ++ []) k) none in
     let tail : drop (blockBits f * ((used h + 0) / blockBits f)) (pending h ++ []) ≡ pending h =
-        ap (λ (k : ℕ). drop (blockBits f * k) (pending h ++ [])) none
-        ∙ ap (λ (k : ℕ). drop k (pending h ++ [])) (mul-zero (blockBits f))
-        ∙ append-nil (pending h) in
+    ap (λ (k : ℕ). drop (blockBits f * k) (pending h ++ [])) none
+    ∙ ap (λ (k : ℕ). drop k (pending h ++ [])) (mul-zero (blockBits f))
+    ∙ append-nil (pending h) in
     holding-path (h .width) _ _ _ _ _ _ (add-zero (h .bits)) state tail ∙ sym (holds h v good)
 
 pub mod-used : (f : Family) (n l : ℕ) → (n % blockBits f + l) % blockBits f ≡ (n + l) % blockBits f
@@ -199,9 +199,9 @@ final-advanced h s m bit =
     let q = messageBlocks f ((h .bits + length m) % blockBits f) in
     let count : k + q ≡ messageBlocks f (length (pending h ++ m)) = sym (message-blocks h s m) in
     let states : chain f (reached (advanced h m)) (pending (advanced h m)) q ≡ chain f (reached h) (pending h ++ m) (messageBlocks f (length (pending h ++ m))) =
-        (λ i. chain f (advanced-state h s m bit i) (advanced-tail h s m bit i) q)
-        ∙ sym (chain-add f (reached h) (pending h ++ m) k q)
-        ∙ ap (λ (b : ℕ). chain f (reached h) (pending h ++ m) b) count in
+    (λ i. chain f (advanced-state h s m bit i) (advanced-tail h s m bit i) q)
+    ∙ sym (chain-add f (reached h) (pending h ++ m) k q)
+    ∙ ap (λ (b : ℕ). chain f (reached h) (pending h ++ m) b) count in
     ap (λ (t : List ℕ). compression f true t (lengthBlock f (h .bits + length m))) states
 
 or-cases : (a b : Bool) → (a || b) ≡ true → (a ≡ true) ⊎ (b ≡ true)

@@ -56,13 +56,13 @@ byte-clear n bytes j zeros fits =
   where
     same : (i : ℕ) → getD (take n (bitsOf bytes)) i 0 ≡ getD (bitsOf bytes) i 0
     same i = elim (decLt i n) [
-        yes before ↦ getD-take n (bitsOf bytes) i 0 before
+      | yes before ↦ getD-take n (bitsOf bytes) i 0 before
       | no past ↦ getD-take-past n (bitsOf bytes) i (omega arith) ∙ sym (clear-at n bytes zeros i (omega arith))
-      ]
+    ]
 
 module _ (width n : ℕ) (state tail : List ℕ)
-         (words : length state ≡ stateWords (familyOf width))
-         (left : length tail ≡ n % blockBits (familyOf width)) (bit : Bits tail) where
+    (words : length state ≡ stateWords (familyOf width))
+    (left : length tail ≡ n % blockBits (familyOf width)) (bit : Bits tail) where
   pub held-state : reached (holding width n state tail) ≡ state
   unfolding reached holding
   held-state = take-padded 32 (stateWords (familyOf width)) state words (words-within (familyOf width))
@@ -92,9 +92,9 @@ module _ (width n : ℕ) (state tail : List ℕ)
     where
       past : (i : ℕ) → n % blockBits (familyOf width) ≤ i → getD (bitsOf (table 128 (byteOf tail))) i 0 ≡ 0
       past i beyond = elim (decLt i 1024) [
-          yes below ↦ bits-of-tail i below ∙ List·getD-eq-default tail 0 {n = i} (omega arith)
+        | yes below ↦ bits-of-tail i below ∙ List·getD-eq-default tail 0 {n = i} (omega arith)
         | no over ↦ List·getD-eq-default (bitsOf (table 128 (byteOf tail))) 0 {n = i} (omega (arith, length-bits))
-        ]
+      ]
 
 pub legal-width : (h : Hash) → legal h ≡ true → isWidth (h .width) ≡ true
 unfolding legal

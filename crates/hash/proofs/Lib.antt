@@ -1,4 +1,5 @@
 pub mod Zeros
 pub mod Holding
 pub mod Feeding
+pub mod Storing
 pub mod Theorems

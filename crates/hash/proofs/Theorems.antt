@@ -7,15 +7,16 @@ use native.Mathlib.Nat.{add-zero, zero-add}
 use native.Mathlib.Omega.{arith}
 use borrow.Author.Tests.{le-leb, eq-eqb, ne-eqb}
 use lib.Dec.{leb, eqb, eqb·suc-zero, lit≤}
-use lib.ListN.{length, getD, take, drop, length-take, length-append}
-use lib.Seq.{take-nil}
+use lib.ListN.{length, getD, take, drop, length-take, length-append, List·getD-eq-default}
+use lib.Seq.{take-all, getD-take, ext-getD}
+use native.Mathlib.Decide.{decLt}
 use Rattle.simd.specs.Basic.{Family, small, large, familyOf, isWidth, blockBits, stateWords, bytesOf, table}
 use Rattle.simd.specs.Constants.{start}
 use Rattle.simd.specs.Message.{bitsOf, byteOf, message, messageBlocks, lengthBlock}
 use Rattle.simd.specs.Steps.{compression}
 use Rattle.simd.specs.Hash.{chain, final, finalState, digest, compressions}
 use Rattle.laws.proofs.Table.{length-table}
-use Rattle.laws.proofs.Bits.{Bits, bits-append}
+use Rattle.laws.proofs.Bits.{Bits, bits-append, bitsOf-bytes, length-bitsOf}
 use Rattle.laws.proofs.Chain.{length-compression}
 use Rattle.hash.specs.Zero.{allZero, clear}
 use Rattle.hash.specs.Open.{limit, family, used, reached, pending, holding, legal, openRefusal, opened, openAnswer, fullBlocks, advanced, feedRefusal, fed, feedAnswer, finalOf, digestOf, takeRefusal, taken, takeAnswer, written}
@@ -23,6 +24,9 @@ use Rattle.hash.specs.declared.Hash.{Hash}
 use Rattle.hash.specs.declared.Opened.{Opened}
 use Rattle.hash.specs.declared.Fed.{Fed}
 use Rattle.hash.specs.declared.Taken.{Taken}
+use Rattle.hash.specs.Form.{formOf, hashOf, restoreRefusal, restoreAnswer}
+use Rattle.hash.proofs.Storing.{form-hash, form-accepted, form-facts, read-legal, read-value, read-form}
+use Rattle.hash.proofs.Zeros.{clear-of}
 use Rattle.hash.proofs.Holding.{Sized, Value, length-pending, bits-pending, held-state, held-tail, held-legal, legal-width}
 use Rattle.hash.proofs.Feeding.{Whole, held-sized, advanced-sized, advanced-bits, advanced-legal, advanced-append, advanced-none, blocks-append, none-full, fed-whole, length-message, bits-message, final-advanced, message-blocks, at-widths, start-length, joined-length}
 
@@ -87,6 +91,46 @@ feed-all h s good (p ∷ ps) whole short =
     let hash = advanced-append h s m (joined ps) bit in
     let blocks = sym (blocks-append h m (joined ps)) in
     rw (first, rest) (λ i. record { hash = hash i; blocks = blocks i; refusal = 0 })
+
+-- Two pieces, one after the other, are a piece of their bits joined.
+pub feed-twice : (h : Hash) → Sized h → legal h ≡ true → (p q r : Piece) → Wholes (p ∷ q ∷ []) → Wholes (r ∷ [])
+    → joined (p ∷ q ∷ []) ≡ joined (r ∷ []) → h .bits + length (joined (r ∷ [])) ≤ limit → feedAll h (p ∷ q ∷ []) ≡ feedAll h (r ∷ [])
+feed-twice h s good p q r two one same short =
+    feed-all h s good (p ∷ q ∷ []) two (rw same short)
+    ∙ (λ i. record { hash = advanced h (same i); blocks = fullBlocks h (length (same i)); refusal = 0 })
+    ∙ sym (feed-all h s good (r ∷ []) one short)
+
+-- Every message is a piece: its bytes, with zeros past its end, and its length.
+module _ (m : List ℕ) (bit : Bits m) where
+  all-bytes : length (table ((length m + 7) / 8) (byteOf m)) ≡ (length m + 7) / 8
+  all-bytes = length-table ((length m + 7) / 8) (byteOf m)
+
+  all-bits : length (bitsOf (table ((length m + 7) / 8) (byteOf m))) ≡ 8 * ((length m + 7) / 8)
+  all-bits = omega (arith, length-bitsOf (table ((length m + 7) / 8) (byteOf m)), all-bytes)
+
+  past-end : (i : ℕ) → length m ≤ i → getD (bitsOf (table ((length m + 7) / 8) (byteOf m))) i 0 ≡ 0
+  past-end i past = elim (decLt i (8 * ((length m + 7) / 8))) [
+    | yes below ↦ bitsOf-bytes ((length m + 7) / 8) m bit i below ∙ List·getD-eq-default m 0 {n = i} (omega arith)
+    | no over ↦ List·getD-eq-default (bitsOf (table ((length m + 7) / 8) (byteOf m))) 0 {n = i} (omega (arith, all-bits))
+  ]
+
+  pub piece-whole : Whole (table ((length m + 7) / 8) (byteOf m)) (length m)
+  piece-whole =
+      record {
+        within = omega (arith, all-bytes);
+        clean =
+            rw (take-all ((length m + 7) / 8) (table ((length m + 7) / 8) (byteOf m)) (omega (arith, all-bytes)))
+            (clear-of (length m) (table ((length m + 7) / 8) (byteOf m)) past-end);
+      }
+
+  pub piece-message : message (table ((length m + 7) / 8) (byteOf m)) (length m) ≡ m
+  unfolding message
+  piece-message =
+      let bits = bitsOf (table ((length m + 7) / 8) (byteOf m)) in
+      ext-getD 0 (take (length m) bits) m (omega (arith, length-take (length m) bits, all-bits))
+      (λ i below.
+      let within : i < length m = omega (arith, length-take (length m) bits) in
+      getD-take (length m) bits i 0 within ∙ bitsOf-bytes ((length m + 7) / 8) m bit i (omega arith))
 
 -- A piece of no bits changes nothing, and no block is compressed.
 nothing : (piece : List ℕ) → Whole piece 0
@@ -247,3 +291,29 @@ unfolding first after holding
 cutting width known ps whole short out room =
     let all = feed-all (first width known) (first-sized width known) (first-legal width known) ps whole (omega arith) in
     rw (open-known width known, all) (after-hashed width known (joined ps) (bits-joined ps) out room)
+
+opened-refusal : (r : ℕ) (h : Hash) → opened r h .refusal ≡ r
+unfolding opened
+opened-refusal zero h = refl
+opened-refusal (suc r) h = refl
+
+opened-known : (r : ℕ) (h : Hash) → r ≡ 0 → opened r h ≡ record { hash = h; refusal = 0 }
+unfolding opened
+opened-known r h none = ap (λ (r : ℕ). opened r h) none
+
+-- A hash that was stored and restored is the same hash, so that it goes on like the one stored.
+pub stored-restored : (h : Hash) → Value h → legal h ≡ true → restoreAnswer (formOf h) ≡ record { hash = h; refusal = 0 }
+unfolding restoreAnswer opened
+stored-restored h v good =
+    let hash = form-hash h v good in
+    rw (form-accepted h v good) (λ i. record { hash = hash i; refusal = 0 })
+
+-- An accepted form stored again is the same bytes, and its hash is legal, whether or not a message reaches its state.
+pub restored-stored : (form : List ℕ) → ((i : ℕ) → getD form i 0 < 256) → restoreAnswer form .refusal ≡ 0
+    → (formOf (restoreAnswer form .hash) ≡ form) × (legal (restoreAnswer form .hash) ≡ true) × Value (restoreAnswer form .hash)
+unfolding restoreAnswer
+restored-stored form fits e =
+    let none : restoreRefusal form ≡ 0 = sym (opened-refusal (restoreRefusal form) (hashOf form)) ∙ e in
+    let facts = form-facts form none in
+    rw (opened-known (restoreRefusal form) (hashOf form) none)
+    (read-form form fits facts, read-legal form fits facts, read-value form fits facts)

@@ -58,6 +58,19 @@ take-padded n k xs long within =
     (λ i below.
     getD-take k (padded n xs) i 0 (omega arith) ∙ getD-table n (λ i. getD xs i 0) i 0 (omega arith))
 
+pub length-padded : (n : ℕ) (xs : List ℕ) → length (padded n xs) ≡ n
+unfolding padded
+length-padded n xs = length-table n (λ i. getD xs i 0)
+
+pub getD-padded : (n : ℕ) (xs : List ℕ) (i : ℕ) → length xs ≤ n → getD (padded n xs) i 0 ≡ getD xs i 0
+unfolding padded
+getD-padded n xs i within = elim (decLt i n) [
+  | yes below ↦ getD-table n (λ i. getD xs i 0) i 0 below
+  | no past ↦
+      List·getD-eq-default (padded n xs) 0 {n = i} (omega (arith, length-table n (λ i. getD xs i 0)))
+      ∙ sym (List·getD-eq-default xs 0 {n = i} (omega arith))
+]
+
 pub padded-past : (n k : ℕ) (xs : List ℕ) → length xs ≤ k → allZero (drop k (padded n xs)) ≡ true
 unfolding padded
 padded-past n k xs past =
@@ -75,9 +88,9 @@ padded-take n k xs long zeros =
   where
     same : (i : ℕ) → getD xs i 0 ≡ getD (take k xs) i 0
     same i = elim (decLt i k) [
-        yes before ↦ sym (getD-take k xs i 0 before)
+      | yes before ↦ sym (getD-take k xs i 0 before)
       | no past ↦
-        let place : k + (i - k) ≡ i = omega arith in
-        let none = rw place at (sym (getD-drop k xs (i - k) 0) ∙ zero-at (drop k xs) zeros (i - k)) in
-        none ∙ sym (getD-take-past k xs i (omega arith))
-      ]
+          let place : k + (i - k) ≡ i = omega arith in
+          let none = rw place at (sym (getD-drop k xs (i - k) 0) ∙ zero-at (drop k xs) zeros (i - k)) in
+          none ∙ sym (getD-take-past k xs i (omega arith))
+    ]
