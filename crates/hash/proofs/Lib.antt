@@ -3,3 +3,5 @@ pub mod Holding
 pub mod Feeding
 pub mod Storing
 pub mod Theorems
+pub mod Filling
+pub mod Stream

@@ -38,6 +38,46 @@ all-zero (x ∷ xs) at =
     let rest = all-zero xs (λ i below. at (suc i) (omega arith)) in
     rw (first, rest)
 
+pub false-of : (b : Bool) → (b ≡ true → ⊥) → b ≡ false
+false-of true never = absurd (never refl)
+false-of false never = refl
+
+pub not-zero : (xs : List ℕ) (i : ℕ) → (getD xs i 0 ≡ 0 → ⊥) → allZero xs ≡ false
+not-zero xs i other = false-of (allZero xs) (λ all. other (zero-at xs all i))
+
+pub past-zero : (n : ℕ) (xs : List ℕ) → allZero (drop n xs) ≡ true → (i : ℕ) → n ≤ i → getD xs i 0 ≡ 0
+past-zero n xs zeros i past =
+    let place : n + (i - n) ≡ i = omega arith in
+    rw place at (sym (getD-drop n xs (i - n) 0) ∙ zero-at (drop n xs) zeros (i - n))
+
+-- A search from place n on: none but zeros before place i.
+pub Passed : ℕ → ℕ → List ℕ → Type 0
+Passed n i xs = (k : ℕ) → n ≤ k → k < i → getD xs k 0 ≡ 0
+
+pub passed-none : (n : ℕ) (xs : List ℕ) → Passed n n xs
+unfolding Passed
+passed-none n xs k from below = absurd (omega arith)
+
+pub passed-more : (n i : ℕ) (xs : List ℕ) → Passed n i xs → getD xs i 0 ≡ 0 → Passed n (i + 1) xs
+unfolding Passed
+passed-more n i xs before here k from below = elim (decLt k i) [
+  | yes less ↦ before k from less
+  | no other ↦
+      let same : i ≡ k = omega arith in
+      rw same at here
+]
+
+pub passed-all : (n i : ℕ) (xs : List ℕ) → Passed n i xs → length xs ≤ i → allZero (drop n xs) ≡ true
+unfolding Passed
+passed-all n i xs before end =
+    all-zero (drop n xs)
+    (λ k below. getD-drop n xs k 0 ∙ before (n + k) (omega arith) (omega (arith, length-drop n xs)))
+
+pub found : (n i : ℕ) (xs : List ℕ) → n ≤ i → (getD xs i 0 ≡ 0 → ⊥) → allZero (drop n xs) ≡ false
+found n i xs from other =
+    let place : n + (i - n) ≡ i = omega arith in
+    not-zero (drop n xs) (i - n) (λ zero. other (rw place at (sym (getD-drop n xs (i - n) 0) ∙ zero)))
+
 -- Past place n.
 pub clear-at : (n : ℕ) (bytes : List ℕ) → clear n bytes ≡ true → (i : ℕ) → n ≤ i → getD (bitsOf bytes) i 0 ≡ 0
 unfolding clear

@@ -2,3 +2,4 @@
 pub mod Zero
 pub mod Open
 pub mod Form
+pub mod Shift

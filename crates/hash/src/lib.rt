@@ -2,6 +2,19 @@
 // answer. `refusal` is 0 where nothing is refused, and otherwise the number of what was; then the hash comes back as it was handed over,
 // no buffer is written to, and the rest of the answer is 0.
 
+ghost use mathlib.Core.Bool.{Bool, true, false};
+ghost use mathlib.Core.Path.{_≡_};
+ghost use mathlib.Core.List.{[]};
+ghost use Prim.Native.Nat.{ℕ, suc, _+_, _*_, _-_, _/_, _%_, _^_, _≤_, _<_};
+ghost use lib.ListN.{length, getD, take, drop};
+ghost use Rattle.simd.specs.Basic.{familyOf, isWidth, blockBytes, blockBits, stateWords, table};
+ghost use Rattle.simd.specs.Message.{byteOf, lengthBlock};
+ghost use Rattle.simd.specs.Steps.{compression};
+ghost use Rattle.simd.specs.Hash.{chain};
+ghost use Rattle.compression.specs.Absorbed.{absorbed};
+ghost use Rattle.hash.specs.Zero.{allZero, clear, padded};
+ghost use Rattle.hash.specs.Shift.{carryAt, shifted, poured, Ready, joinedBits};
+
 // The words past the family's state and the bits past the tail are 0.
 pub struct Hash {
     pub width: u16,
@@ -31,4 +44,99 @@ pub struct Taken {
 pub struct Stored {
     pub hash: Hash,
     pub refusal: u8,
+}
+
+fn wide(x: u8) -> u16
+    ensures { λ r. ⌜ (r ≡ x) × (r < 256) ⌝ }
+{
+    x as u16
+}
+
+// Whether a width is one of the four.
+fn is_width(width: u16) -> bool
+    ensures { λ r. ⌜ r ≡ isWidth width ⌝ }
+{
+    if width == 224 {
+        return true;
+    }
+    if width == 256 {
+        return true;
+    }
+    if width == 384 {
+        return true;
+    }
+    width == 512
+}
+
+fn block_bytes(width: u16) -> usize
+    ensures { λ r. ⌜ r ≡ blockBytes (familyOf width) ⌝ }
+{
+    if width <= 256 { 64 } else { 128 }
+}
+
+// Whether all words from a place on are 0.
+fn words_zero(words: &[u32], from: usize) -> bool
+    ensures { λ r. ⌜ r ≡ allZero (drop from (now (words .entry))) ⌝ }
+{
+    let mut i = from;
+    while i < words.len() {
+        if words[i] != 0 {
+            return false;
+        }
+        i += 1;
+    }
+    true
+}
+
+// Whether all bytes from a place on are 0.
+fn bytes_zero(bytes: &[u8], from: usize) -> bool
+    ensures { λ r. ⌜ r ≡ allZero (drop from (now (bytes .entry))) ⌝ }
+{
+    let mut i = from;
+    while i < bytes.len() {
+        if bytes[i] != 0 {
+            return false;
+        }
+        i += 1;
+    }
+    true
+}
+
+// 2 to the number of bits that are free in a byte that holds `held`.
+fn scale_of(held: usize) -> u16
+    requires { ⌜ held < 8 ⌝ }
+    ensures { λ r. ⌜ (r ≡ 2 ^ (8 - held)) × (r ≤ 256) × (0 < r) ⌝ }
+{
+    256u16 >> held
+}
+
+// Whether all bits from a place on are 0.
+fn bits_zero(bytes: &[u8], from: usize) -> bool
+    ensures { λ r. ⌜ r ≡ clear from (now (bytes .entry)) ⌝ }
+{
+    let at = from / 8;
+    if bytes.len() <= at {
+        return true;
+    }
+    if wide(bytes[at]) % scale_of(from % 8) != 0 {
+        return false;
+    }
+    bytes_zero(bytes, at + 1)
+}
+
+// Writes the shifted source, as much as the buffer takes, and gives the carry after it.
+fn shift(scale: u16, carry: u8, src: &[u8], dst: &mut [u8]) -> u8
+    requires { ⌜ (scale ≤ 256) × (length (now dst) ≤ length (now src)) ⌝ }
+    ensures { λ r. ⌜ (now (dst .exit) ≡ table (length (now (dst .entry))) (shifted scale carry (now (src .entry))))
+        × (r ≡ carryAt scale carry (now (src .entry)) (length (now (dst .entry)))) ⌝ }
+{
+    let mut held = wide(carry);
+    let mut i = 0;
+    while i < dst.len() {
+        let scaled = wide(src[i]) * scale;
+        dst[i] = ((held + scaled / 256) % 256) as u8;
+        held = scaled % 256;
+        i += 1;
+    }
+    (held % 256) as u8
 }

@@ -28,6 +28,17 @@ unfolding value
 value-zero zero g e = refl
 value-zero (suc n) g e = omega (arith, value-zero n g (λ i below. e i (omega arith)), e n (omega arith))
 
+pub value-none : (n : ℕ) (g : ℕ → ℕ) → value n g ≡ 0 → (i : ℕ) → i < n → g i ≡ 0
+unfolding value
+value-none zero g none i below = absurd (not-suc-le-zero below)
+value-none (suc n) g none i below = elim (decLt i n) [
+  | yes less ↦ value-none n g (omega arith) i less
+  | no other ↦
+      let same : n ≡ i = omega arith in
+      let last : g n ≡ 0 = omega arith in
+      rw same at last
+]
+
 pub value-append : (a b : ℕ) (g : ℕ → ℕ) → value (a + b) g ≡ value a g * 2 ^ b + value b (λ t. g (a + t))
 unfolding value
 value-append a zero g = rw (add-zero a, pow-zero) (omega arith)
