@@ -4,10 +4,11 @@ use mathlib.Core.Path.{_≡_, refl, sym, ap, _∙_}
 use Prim.Native.Nat.{ℕ, zero, suc, _+_, _<_, _≤_}
 use native.Mathlib.Omega.{arith}
 use native.Mathlib.Decide.{decLt}
-use lib.ListN.{length, getD, set, length-set}
-use lib.Seq.{getD-set-same, getD-set-other}
+use lib.ListN.{length, getD, take, set, replicate, length-set, length-take, length-replicate, getD-replicate, List·getD-eq-default}
+use lib.Seq.{getD-set-same, getD-set-other, getD-take}
 use Rattle.simd.specs.Basic.{table}
 use Rattle.laws.proofs.Table.{table-of}
+use Rattle.hash.specs.Zero.{padded}
 
 -- A list of n elements whose first i are those of g.
 pub record Filled (n i : ℕ) (g : ℕ → ℕ) (xs : List ℕ) : Type 0 where
@@ -31,3 +32,43 @@ filled-more n i g xs x f below here =
 
 pub filled-all : (n i : ℕ) (g : ℕ → ℕ) (xs : List ℕ) → Filled n i g xs → n ≤ i → xs ≡ table n g
 filled-all n i g xs f end = table-of 0 n g xs (f .size) (λ k below. f .front k (omega arith))
+
+-- The first n elements of a list.
+pub take-table : (n : ℕ) (xs : List ℕ) → n ≤ length xs → take n xs ≡ table n (λ k. getD xs k 0)
+take-table n xs within =
+    table-of 0 n (λ k. getD xs k 0) (take n xs) (omega (arith, length-take n xs)) (λ k below. getD-take n xs k 0 below)
+
+-- A list of n elements whose first i are those of another, and the others 0.
+pub record Copied (n i : ℕ) (from xs : List ℕ) : Type 0 where
+  pub filled : Filled n i (λ k. getD from k 0) xs
+  pub rest : (k : ℕ) → i ≤ k → getD xs k 0 ≡ 0
+
+zero-element : (n k : ℕ) → getD {A = ℕ} (replicate n 0) k 0 ≡ 0
+zero-element n k = elim (decLt k n) [
+  | yes below ↦ getD-replicate n k 0 0 below
+  | no past ↦ List·getD-eq-default (replicate n 0) 0 {n = k} (omega (arith, length-replicate {A = ℕ} n 0))
+]
+
+pub copied-none : (n : ℕ) (from : List ℕ) → Copied n 0 from (replicate n 0)
+copied-none n from =
+    record {
+      filled = filled-none n (λ k. getD from k 0) (replicate n 0) (length-replicate n 0);
+      rest = λ k _. zero-element n k;
+    }
+
+pub copied-more : (n i : ℕ) (from xs : List ℕ) → Copied n i from xs → i < n → Copied n (i + 1) from (set xs i (getD from i 0))
+copied-more n i from xs c below =
+    record {
+      filled = filled-more n i (λ k. getD from k 0) xs (getD from i 0) (c .filled) below refl;
+      rest = λ k after. getD-set-other xs i k (getD from i 0) 0 (λ same. omega arith) ∙ c .rest k (omega arith);
+    }
+
+pub copied-all : (n i : ℕ) (from xs : List ℕ) → Copied n i from xs → length from ≤ i → xs ≡ padded n from
+unfolding padded
+copied-all n i from xs c end = table-of 0 n (λ k. getD from k 0) xs (c .filled .size) (λ k _. each k)
+  where
+    each : (k : ℕ) → getD xs k 0 ≡ getD from k 0
+    each k = elim (decLt k i) [
+      | yes before ↦ c .filled .front k before
+      | no after ↦ c .rest k (omega arith) ∙ sym (List·getD-eq-default from 0 {n = k} (omega arith))
+    ]

@@ -5,3 +5,6 @@ pub mod Storing
 pub mod Theorems
 pub mod Filling
 pub mod Stream
+pub mod Families
+pub mod Parts
+pub mod Absorbing

@@ -3,21 +3,25 @@ use mathlib.Core.Bool.{Bool, true, false, cond}
 use mathlib.Core.List.{List, [], _∷_, _++_}
 use mathlib.Core.Path.{_≡_, refl, sym, ap, _∙_}
 use Prim.Native.Nat.{ℕ, zero, suc, _+_, _*_, _-_, _/_, _%_, _^_, _<_, _≤_}
-use native.Mathlib.Nat.{mul-le-mul, le-of-suc-le-suc, mod-eq-of-lt, mod-lt, zero-div, zero-mod}
+use native.Mathlib.Nat.{mul-le-mul, le-of-suc-le-suc, mod-eq-of-lt, mod-lt, zero-div, zero-mod, zero-mul, add-zero}
 use native.Mathlib.Numerals.{add-one}
 use native.Mathlib.Omega.{arith}
-use native.Mathlib.Decide.{decLt}
+use native.Mathlib.Decide.{decLt, ℕ-discrete}
+use borrow.Author.Tests.{lt-ltb, le-ltb, le-leb, lt-leb}
+use borrow.Rule.Slice.PartMut.{putMid}
 use lib.Dec.{lit<}
-use lib.ListN.{length, getD, take, drop, set, List·getD-eq-default}
+use lib.ListN.{length, getD, take, drop, set, length-set, List·getD-eq-default}
 use lib.Pow.{pow-pos, pow-add, pow-mono, shl-shr}
-use lib.Seq.{getD-drop, getD-take}
+use lib.Seq.{getD-drop, getD-take, getD-set-same, getD-set-other}
 use Rattle.simd.specs.Basic.{table}
 use Rattle.simd.specs.Message.{bitsOf, byteOf}
+use Rattle.laws.proofs.Table.{length-table, getD-table, table-of}
 use Rattle.laws.proofs.Bits.{value, value-zero, value-low, byte-value, byte-bitsOf, bits-bitsOf, length-bitsOf, getD-bitsOf, value-none}
 use Rattle.hash.specs.Zero.{allZero, clear}
-use Rattle.hash.specs.Shift.{carryAt, shifted}
+use Rattle.hash.specs.Shift.{carryAt, shifted, poured}
 use Rattle.hash.proofs.Zeros.{false-of, zero-at, all-zero, clear-at, clear-of, past-zero}
 use Rattle.hash.proofs.Storing.{bytes-past}
+use Rattle.hash.proofs.Parts.{put-before, put-part, put-after, put-length}
 use Rattle.hash.proofs.Filling.{Filled, filled-none, filled-more}
 
 -- The scale of a byte that holds o bits.
@@ -114,3 +118,86 @@ pub bits-clear : (n : ℕ) (bytes : List ℕ) → ((i : ℕ) → getD bytes i 0 
 bits-clear n bytes fits none =
     let place : 8 * (n / 8) + n % 8 ≡ n = omega arith in
     rw place at (place-clear bytes fits (n / 8) (n % 8) (8 - n % 8) (omega arith) none)
+
+-- The carry stands behind the last byte of the source.
+pub carry-lt : (scale carry : ℕ) (src : List ℕ) (i : ℕ) → carry < 256 → carryAt scale carry src i < 256
+unfolding carryAt
+carry-lt scale carry src zero small = small
+carry-lt scale carry src (suc i) small = mod-lt (getD src i 0 * scale) (lit< tt)
+
+pub shifted-end : (scale carry : ℕ) (src : List ℕ) (i : ℕ) → carry < 256 → length src ≤ i → shifted scale carry src i ≡ carryAt scale carry src i
+unfolding shifted
+shifted-end scale carry src i small past =
+    let none = List·getD-eq-default src 0 {n = i} past in
+    rw (none, zero-mul, zero-div, add-zero) (mod-eq-of-lt (carry-lt scale carry src i small))
+
+-- A buffer into whose middle the shifted source was put, and then the carry behind it.
+module _ (buffer : List ℕ) (at scale carry : ℕ) (src ys : List ℕ) (within : at + length src ≤ length buffer) (small : carry < 256)
+    (wrote : ys ≡ table (length src) (shifted scale carry src)) where
+  fits : length ys ≡ at + length src - at
+  fits = ap length wrote ∙ omega (arith, length-table (length src) (shifted scale carry src))
+
+  put : List ℕ
+  put = putMid at (at + length src - at) buffer ys
+
+  poured-before : (j : ℕ) → j < at → getD put j 0 ≡ poured buffer at scale carry src j
+  unfolding put poured
+  poured-before j before =
+      rw (lt-ltb j at before) (put-before at (at + length src) buffer ys (omega arith) within fits j before)
+
+  poured-part : (j : ℕ) → at ≤ j → j < at + length src → getD put j 0 ≡ poured buffer at scale carry src j
+  unfolding put poured
+  poured-part j after before =
+      let place : at + (j - at) ≡ j = omega arith in
+      let byte = rw place at (put-part at (at + length src) buffer ys (omega arith) within fits (j - at) (omega arith)) in
+      rw (le-ltb j at after, le-leb (j - at) (length src) (omega arith))
+      (byte ∙ ap (λ (l : List ℕ). getD l (j - at) 0) wrote ∙ getD-table (length src) (shifted scale carry src) (j - at) 0 (omega arith))
+
+  poured-after : (j : ℕ) → at + length src < j → getD put j 0 ≡ poured buffer at scale carry src j
+  unfolding put poured
+  poured-after j after =
+      rw (le-ltb j at (omega arith), lt-leb (j - at) (length src) (omega arith))
+      (put-after at (at + length src) buffer ys (omega arith) within fits j (omega arith))
+
+  poured-carry : carryAt scale carry src (length src) ≡ poured buffer at scale carry src (at + length src)
+  unfolding poured
+  poured-carry =
+      let place : at + length src - at ≡ length src = omega arith in
+      rw (le-ltb (at + length src) at (omega arith), place, le-leb (length src) (length src) (omega arith))
+      (sym (shifted-end scale carry src (length src) small (omega arith)))
+
+  put-size : length put ≡ length buffer
+  unfolding put
+  put-size = put-length at (at + length src) buffer ys (omega arith) within fits
+
+  pub poured-full : length buffer ≤ at + length src → putMid at (at + length src - at) buffer ys ≡ table (length buffer) (poured buffer at scale carry src)
+  unfolding put
+  poured-full full =
+      table-of 0 (length buffer) (poured buffer at scale carry src) put put-size
+      (λ j below. elim (decLt j at) [
+        | yes before ↦ poured-before j before
+        | no after ↦ poured-part j (omega arith) (omega arith)
+      ])
+
+  pub poured-set : (last : ℕ) → last ≡ carryAt scale carry src (length src) → at + length src < length buffer
+      → set (putMid at (at + length src - at) buffer ys) (at + length src) last ≡ table (length buffer) (poured buffer at scale carry src)
+  unfolding put
+  poured-set last carried more =
+      table-of 0 (length buffer) (poured buffer at scale carry src) (set put (at + length src) last)
+      (length-set put (at + length src) last ∙ put-size)
+      (λ j below. each j)
+    where
+      each : (j : ℕ) → getD (set put (at + length src) last) j 0 ≡ poured buffer at scale carry src j
+      each j = elim (ℕ-discrete j (at + length src)) [
+        | yes same ↦
+            rw same (getD-set-same put (at + length src) last 0 (omega (arith, put-size)) ∙ carried ∙ poured-carry)
+        | no other ↦
+            getD-set-other put (at + length src) j last 0 other
+            ∙ elim (decLt j at) [
+              | yes before ↦ poured-before j before
+              | no after ↦ elim (decLt j (at + length src)) [
+                | yes inside ↦ poured-part j (omega arith) inside
+                | no behind ↦ poured-after j (omega arith)
+              ]
+            ]
+      ]

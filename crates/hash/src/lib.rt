@@ -140,3 +140,102 @@ fn shift(scale: u16, carry: u8, src: &[u8], dst: &mut [u8]) -> u8
     }
     (held % 256) as u8
 }
+
+// Writes the shifted source into a buffer from place `at` on, and the carry behind it where the buffer goes on.
+fn pour(buffer: &mut [u8], at: usize, scale: u16, carry: u8, src: &[u8])
+    requires { ⌜ (scale ≤ 256) × (at + length (now src) ≤ length (now buffer)) ⌝ }
+    ensures { λ _. ⌜ now (buffer .exit)
+        ≡ table (length (now (buffer .entry))) (poured (now (buffer .entry)) at scale carry (now (src .entry))) ⌝ }
+{
+    let whole = buffer.len();
+    let end = at + src.len();
+    let last = shift(scale, carry, src, &mut buffer[at..end]);
+    if end < whole {
+        buffer[end] = last;
+    }
+}
+
+// The small family's state in the first 16 of 32 words, and back.
+fn narrow(state: [u32; 32]) -> [u32; 16]
+    ensures { λ r. ⌜ r ≡ take 16 state ⌝ }
+{
+    let mut words = [0u32; 16];
+    let mut i = 0;
+    while i < 16 {
+        words[i] = state[i];
+        i += 1;
+    }
+    words
+}
+
+fn widen(state: [u32; 16]) -> [u32; 32]
+    ensures { λ r. ⌜ r ≡ padded 32 state ⌝ }
+{
+    let mut words = [0u32; 32];
+    let mut i = 0;
+    while i < 16 {
+        words[i] = state[i];
+        i += 1;
+    }
+    words
+}
+
+// Compresses all whole blocks of a byte string.
+fn absorb(width: u16, state: &mut [u32; 32], bytes: &[u8])
+    requires { ⌜ length (now state) ≡ 32 ⌝ }
+    ensures { λ _. ⌜ now (state .exit)
+        ≡ padded 32 (absorbed (familyOf width) (take (stateWords (familyOf width)) (now (state .entry))) (now (bytes .entry))
+        (length (now (bytes .entry)) / blockBytes (familyOf width))) ⌝ }
+{
+    if width <= 256 {
+        let mut small = narrow(*state);
+        compression::absorb_small(&mut small, bytes);
+        let wide = widen(small);
+        *state = wide;
+    } else {
+        compression::absorb_large(state, bytes);
+    }
+}
+
+// Compresses the length block.
+fn finish(width: u16, state: &mut [u32; 32], bits: u64)
+    requires { ⌜ length (now state) ≡ 32 ⌝ }
+    ensures { λ _. ⌜ now (state .exit)
+        ≡ padded 32 (compression (familyOf width) true (take (stateWords (familyOf width)) (now (state .entry))) (lengthBlock (familyOf width) bits)) ⌝ }
+{
+    if width <= 256 {
+        let mut small = narrow(*state);
+        compression::finish_small(&mut small, bits);
+        let wide = widen(small);
+        *state = wide;
+    } else {
+        compression::finish_large(state, bits);
+    }
+}
+
+// Room for the shifted bytes of several blocks.
+fn room() -> [u8; 1024] {
+    [0u8; 1024]
+}
+
+// Compresses the blocks of a shifted part that the buffer has room for, and gives the carry after it.
+fn absorb_part(
+    width: u16,
+    state: &mut [u32; 32],
+    scale: u16,
+    carry: u8,
+    part: &[u8],
+    buffer: &mut [u8],
+) -> u8
+    requires { ⌜ (length (now state) ≡ 32) × (scale ≤ 256) × (length (now part) ≤ length (now buffer)) ⌝ }
+    ensures { λ r. ⌜ (now (state .exit)
+        ≡ padded 32 (absorbed (familyOf width) (take (stateWords (familyOf width)) (now (state .entry)))
+        (table (length (now (part .entry))) (shifted scale carry (now (part .entry))))
+        (length (now (part .entry)) / blockBytes (familyOf width))))
+        × (r ≡ carryAt scale carry (now (part .entry)) (length (now (part .entry)))) ⌝ }
+{
+    let n = part.len();
+    let last = shift(scale, carry, part, &mut buffer[..n]);
+    absorb(width, state, &buffer[..n]);
+    last
+}

@@ -1,0 +1,35 @@
+-- Laws of a list in whose middle a part was put.
+use mathlib.Core.List.{List, _++_}
+use mathlib.Core.Path.{_≡_, refl, sym, ap, _∙_}
+use Prim.Native.Nat.{ℕ, _+_, _-_, _<_, _≤_}
+use native.Mathlib.Omega.{arith}
+use borrow.Rule.Slice.PartMut.{midOf, putMid, postOf, drop-put, same-len-mid, mid-len}
+use lib.ListN.{length, getD, take, drop, length-append, length-take, length-drop, List·getD-append}
+use lib.Seq.{getD-append-add, getD-take, getD-drop}
+
+pub part-size : (a n : ℕ) (xs : List ℕ) → a + n ≤ length xs → length (midOf a (a + n - a) xs) ≡ n
+part-size a n xs within = mid-len a (a + n) xs within ∙ omega arith
+
+module _ (a e : ℕ) (xs ys : List ℕ) (order : a ≤ e) (within : e ≤ length xs) (fits : length ys ≡ e - a) where
+  front : length (take a xs) ≡ a
+  front = omega (arith, length-take a xs)
+
+  pub put-before : (j : ℕ) → j < a → getD (putMid a (e - a) xs ys) j 0 ≡ getD xs j 0
+  put-before j before =
+      List·getD-append (take a xs) (ys ++ postOf a (e - a) xs) 0 j (omega (arith, front)) ∙ getD-take a xs j 0 before
+
+  pub put-part : (i : ℕ) → i < e - a → getD (putMid a (e - a) xs ys) (a + i) 0 ≡ getD ys i 0
+  put-part i inside =
+      ap (λ (n : ℕ). getD (putMid a (e - a) xs ys) n 0) (ap (λ (n : ℕ). n + i) (sym front))
+      ∙ getD-append-add (take a xs) (ys ++ postOf a (e - a) xs) i 0
+      ∙ List·getD-append ys (postOf a (e - a) xs) 0 i (omega (arith, fits))
+
+  pub put-after : (j : ℕ) → e ≤ j → getD (putMid a (e - a) xs ys) j 0 ≡ getD xs j 0
+  put-after j after =
+      let place : e + (j - e) ≡ j = omega arith in
+      let there = rw place at (getD-drop e (putMid a (e - a) xs ys) (j - e) 0) in
+      let here = rw place at (getD-drop e xs (j - e) 0) in
+      sym there ∙ ap (λ (l : List ℕ). getD l (j - e) 0) (drop-put a e xs ys order within fits) ∙ here
+
+  pub put-length : length (putMid a (e - a) xs ys) ≡ length xs
+  put-length = same-len-mid a (e - a) xs ys (fits ∙ sym (mid-len a e xs within))
