@@ -7,7 +7,7 @@ use native.Mathlib.Nat.{add-zero, add-suc}
 use native.Mathlib.Omega.{arith}
 use lib.ListN.{length, getD, take, drop, length-take, length-drop}
 use lib.Seq.{take-all, getD-take, getD-drop, ext-getD}
-use Rattle.simd.specs.Basic.{Family, small, large, blockBytes, stateWords, table}
+use Rattle.simd.specs.Basic.{Family, small, large, familyOf, blockBytes, stateWords, table}
 use Rattle.simd.specs.Message.{byteOf, block}
 use Rattle.simd.specs.Steps.{compression}
 use Rattle.simd.specs.Hash.{chain}
@@ -15,7 +15,7 @@ use Rattle.compression.specs.Absorbed.{absorbed}
 use Rattle.laws.proofs.Table.{table-of}
 use Rattle.laws.proofs.Chain.{length-compression}
 use Rattle.hash.specs.Zero.{padded}
-use Rattle.hash.proofs.Zeros.{take-padded}
+use Rattle.hash.proofs.Zeros.{length-padded}
 use Rattle.hash.proofs.Holding.{words-within}
 
 pub absorbed-length : (f : Family) (s bytes : List ℕ) (k : ℕ) → length s ≡ stateWords f → length (absorbed f s bytes k) ≡ stateWords f
@@ -93,3 +93,8 @@ absorbed-chain f s m x c (suc k) enough same =
     let before = absorbed-chain f s m x c k (omega arith) (λ i below. same i (omega arith)) in
     let last = message-block f m x c k enough same in
     rw add-suc (λ i. compression f false (before i) (last i))
+
+-- The family's words of a state that is 0 past them.
+pub length-prefix : (width : ℕ) (state : List ℕ) → state ≡ padded 32 (take (stateWords (familyOf width)) state) → length (take (stateWords (familyOf width)) state) ≡ stateWords (familyOf width)
+length-prefix width state fits =
+    omega (arith, length-take (stateWords (familyOf width)) state, ap length fits, length-padded 32 (take (stateWords (familyOf width)) state), words-within (familyOf width))

@@ -8,3 +8,4 @@ pub mod Stream
 pub mod Families
 pub mod Parts
 pub mod Absorbing
+pub mod Running

@@ -5,10 +5,16 @@ use Prim.Native.Nat.{ℕ, _+_, _-_, _<_, _≤_}
 use native.Mathlib.Omega.{arith}
 use borrow.Rule.Slice.PartMut.{midOf, putMid, postOf, drop-put, same-len-mid, mid-len}
 use lib.ListN.{length, getD, take, drop, length-append, length-take, length-drop, List·getD-append}
-use lib.Seq.{getD-append-add, getD-take, getD-drop}
+use lib.Seq.{take-all, getD-append-add, getD-take, getD-drop}
 
 pub part-size : (a n : ℕ) (xs : List ℕ) → a + n ≤ length xs → length (midOf a (a + n - a) xs) ≡ n
 part-size a n xs within = mid-len a (a + n) xs within ∙ omega arith
+
+pub front-size : (n : ℕ) (xs : List ℕ) → n ≤ length xs → length (take (n - 0) xs) ≡ n
+front-size n xs within = omega (arith, length-take (n - 0) xs)
+
+pub back : (n : ℕ) (xs : List ℕ) → take (length xs - n) (drop n xs) ≡ drop n xs
+back n xs = take-all (length xs - n) (drop n xs) (omega (arith, length-drop n xs))
 
 module _ (a e : ℕ) (xs ys : List ℕ) (order : a ≤ e) (within : e ≤ length xs) (fits : length ys ≡ e - a) where
   front : length (take a xs) ≡ a

@@ -4,8 +4,8 @@
 
 ghost use mathlib.Core.Bool.{Bool, true, false};
 ghost use mathlib.Core.Path.{_≡_};
-ghost use mathlib.Core.List.{[]};
-ghost use Prim.Native.Nat.{ℕ, suc, _+_, _*_, _-_, _/_, _%_, _^_, _≤_, _<_};
+ghost use mathlib.Core.List.{_++_};
+ghost use Prim.Native.Nat.{ℕ, suc, min, _+_, _*_, _-_, _/_, _%_, _^_, _≤_, _<_};
 ghost use lib.ListN.{length, getD, take, drop};
 ghost use Rattle.simd.specs.Basic.{familyOf, isWidth, blockBytes, blockBits, stateWords, table};
 ghost use Rattle.simd.specs.Message.{byteOf, lengthBlock};
@@ -238,4 +238,136 @@ fn absorb_part(
     let last = shift(scale, carry, part, &mut buffer[..n]);
     absorb(width, state, &buffer[..n]);
     last
+}
+
+// The end of the next part of a source, which is at most 1,024 bytes long.
+fn part_end(at: usize, length: usize) -> usize
+    requires { ⌜ at ≤ length ⌝ }
+    ensures { λ r. ⌜ r ≡ at + min (length - at) 1024 ⌝ }
+{
+    if length - at <= 1024 {
+        length
+    } else {
+        at + 1024
+    }
+}
+
+// Compresses a shifted source of whole blocks, a part at a time, and gives the carry after it.
+fn absorb_parts(width: u16, state: &mut [u32; 32], scale: u16, carry: u8, src: &[u8]) -> u8
+    requires { ⌜ (now state ≡ padded 32 (take (stateWords (familyOf width)) (now state))) × (scale ≤ 256)
+        × (length (now src) % blockBytes (familyOf width) ≡ 0) ⌝ }
+    ensures { λ r. ⌜ (now (state .exit)
+        ≡ padded 32 (absorbed (familyOf width) (take (stateWords (familyOf width)) (now (state .entry)))
+        (table (length (now (src .entry))) (shifted scale carry (now (src .entry))))
+        (length (now (src .entry)) / blockBytes (familyOf width))))
+        × (r ≡ carryAt scale carry (now (src .entry)) (length (now (src .entry)))) ⌝ }
+{
+    let mut buffer = room();
+    let mut held = carry;
+    let mut at = 0;
+    while at < src.len() {
+        let end = part_end(at, src.len());
+        held = absorb_part(width, state, scale, held, &src[at..end], &mut buffer);
+        at = end;
+    }
+    held
+}
+
+// The same; where nothing is to be shifted, straight from the source.
+fn absorb_source(width: u16, state: &mut [u32; 32], scale: u16, carry: u8, src: &[u8]) -> u8
+    requires { ⌜ (now state ≡ padded 32 (take (stateWords (familyOf width)) (now state))) × (scale ≤ 256)
+        × (length (now src) % blockBytes (familyOf width) ≡ 0) ⌝ }
+    ensures { λ r. ⌜ (now (state .exit)
+        ≡ padded 32 (absorbed (familyOf width) (take (stateWords (familyOf width)) (now (state .entry)))
+        (table (length (now (src .entry))) (shifted scale carry (now (src .entry))))
+        (length (now (src .entry)) / blockBytes (familyOf width))))
+        × (r ≡ carryAt scale carry (now (src .entry)) (length (now (src .entry)))) ⌝ }
+{
+    if scale == 256 {
+        if carry == 0 {
+            absorb(width, state, src);
+            return 0;
+        }
+    }
+    absorb_parts(width, state, scale, carry, src)
+}
+
+fn blank(bytes: &mut [u8])
+    ensures { λ _. ⌜ now (bytes .exit) ≡ table (length (now (bytes .entry))) (λ _. 0) ⌝ }
+{
+    let mut i = 0;
+    while i < bytes.len() {
+        bytes[i] = 0;
+        i += 1;
+    }
+}
+
+// Compresses the first bytes of a shifted source, which are whole blocks, and makes the others the tail.
+fn flow(
+    width: u16,
+    state: &mut [u32; 32],
+    tail: &mut [u8],
+    scale: u16,
+    carry: u8,
+    src: &[u8],
+    whole: usize,
+)
+    requires { ⌜ (now state ≡ padded 32 (take (stateWords (familyOf width)) (now state))) × (scale ≤ 256) × (whole % blockBytes (familyOf width) ≡ 0) × (whole ≤ length (now src))
+        × (length (now src) - whole ≤ length (now tail)) ⌝ }
+    ensures { λ _. ⌜ (now (state .exit)
+        ≡ padded 32 (absorbed (familyOf width) (take (stateWords (familyOf width)) (now (state .entry)))
+        (table whole (shifted scale carry (now (src .entry)))) (whole / blockBytes (familyOf width))))
+        × (now (tail .exit)
+        ≡ table (length (now (tail .entry)))
+        (poured (table (length (now (tail .entry))) (λ _. 0)) 0 scale (carryAt scale carry (now (src .entry)) whole) (drop whole (now (src .entry))))) ⌝ }
+{
+    let end = src.len();
+    let last = absorb_source(width, state, scale, carry, &src[0..whole]);
+    blank(tail);
+    pour(tail, 0, scale, last, &src[whole..end]);
+}
+
+// Completes the tail's block with a shifted part, and compresses it.
+fn complete(
+    width: u16,
+    state: &mut [u32; 32],
+    tail: &mut [u8],
+    at: usize,
+    scale: u16,
+    carry: u8,
+    part: &[u8],
+) -> u8
+    requires { ⌜ (length (now state) ≡ 32) × (scale ≤ 256) × (at + length (now part) ≡ blockBytes (familyOf width))
+        × (at + length (now part) ≤ length (now tail)) ⌝ }
+    ensures { λ r. ⌜ (now (state .exit)
+        ≡ padded 32 (compression (familyOf width) false (take (stateWords (familyOf width)) (now (state .entry)))
+        (take at (now (tail .entry)) ++ table (length (now (part .entry))) (shifted scale carry (now (part .entry))))))
+        × (r ≡ carryAt scale carry (now (part .entry)) (length (now (part .entry)))) ⌝ }
+{
+    let end = at + part.len();
+    let last = shift(scale, carry, part, &mut tail[at..end]);
+    absorb(width, state, &tail[0..end]);
+    last
+}
+
+// The full blocks of a number of bits, and the bytes of a number of blocks.
+fn full_blocks(width: u16, bits: usize) -> usize
+    ensures { λ r. ⌜ r ≡ bits / blockBits (familyOf width) ⌝ }
+{
+    if width <= 256 {
+        bits / 512
+    } else {
+        bits / 1024
+    }
+}
+
+fn bytes_of_blocks(width: u16, blocks: usize) -> usize
+    requires { ⌜ blocks < 2 ^ 32 ⌝ }
+    ensures { λ r. ⌜ r ≡ blockBytes (familyOf width) * blocks ⌝ }
+{
+    if width <= 256 {
+        64 * blocks
+    } else {
+        128 * blocks
+    }
 }
