@@ -15,7 +15,7 @@ use Rattle.compression.specs.Absorbed.{absorbed}
 use Rattle.laws.proofs.Table.{table-of}
 use Rattle.laws.proofs.Chain.{length-compression}
 use Rattle.hash.specs.Zero.{padded}
-use Rattle.hash.proofs.Zeros.{length-padded}
+use Rattle.hash.proofs.Zeros.{length-padded, take-padded}
 use Rattle.hash.proofs.Holding.{words-within}
 
 pub absorbed-length : (f : Family) (s bytes : List ℕ) (k : ℕ) → length s ≡ stateWords f → length (absorbed f s bytes k) ≡ stateWords f
@@ -98,3 +98,8 @@ absorbed-chain f s m x c (suc k) enough same =
 pub length-prefix : (width : ℕ) (state : List ℕ) → state ≡ padded 32 (take (stateWords (familyOf width)) state) → length (take (stateWords (familyOf width)) state) ≡ stateWords (familyOf width)
 length-prefix width state fits =
     omega (arith, length-take (stateWords (familyOf width)) state, ap length fits, length-padded 32 (take (stateWords (familyOf width)) state), words-within (familyOf width))
+
+-- A state made of the family's words is 0 past them.
+pub refit : (f : Family) (state words : List ℕ) → length words ≡ stateWords f → state ≡ padded 32 words → state ≡ padded 32 (take (stateWords f) state)
+refit f state words long same =
+    same ∙ ap (padded 32) (sym (ap (take (stateWords f)) same ∙ take-padded 32 (stateWords f) words long (words-within f)))

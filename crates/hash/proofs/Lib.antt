@@ -9,3 +9,4 @@ pub mod Families
 pub mod Parts
 pub mod Absorbing
 pub mod Running
+pub mod Advancing

@@ -8,14 +8,16 @@ use native.Mathlib.Omega.{arith}
 use borrow.Rule.Slice.PartMut.{putMid, postOf}
 use lib.Dec.{lit<}
 use lib.ListN.{length, getD, take, drop, length-append, length-take, length-drop}
-use lib.Seq.{take-all, take-at, length-take-le, getD-take, getD-drop}
-use Rattle.simd.specs.Basic.{Family, small, large, blockBytes, stateWords, table}
+use lib.Seq.{take-all, take-at, length-take-le, getD-take, getD-drop, drop-drop}
+use Rattle.simd.specs.Basic.{Family, small, large, familyOf, blockBytes, stateWords, table}
 use Rattle.simd.specs.Steps.{compression}
 use Rattle.compression.specs.Absorbed.{absorbed}
 use Rattle.laws.proofs.Table.{length-table, getD-table, table-of, table-ext}
 use Rattle.hash.specs.Zero.{padded}
-use Rattle.hash.specs.Shift.{carryAt, shifted}
+use Rattle.hash.specs.Shift.{carryAt, shifted, poured, Crossing}
 use Rattle.hash.proofs.Zeros.{take-padded, length-padded}
+use Rattle.laws.proofs.Chain.{length-compression}
+use Rattle.hash.proofs.Parts.{back}
 use Rattle.hash.proofs.Holding.{words-within}
 use Rattle.hash.proofs.Absorbing.{absorbed-length, absorbed-on}
 
@@ -188,3 +190,64 @@ completed f s tail xs at end order within size whole =
     ap (λ (l : List ℕ). absorbed f s l (length l / blockBytes f)) front
     ∙ ap (absorbed f s joined) count
     ∙ ap (compression f false s) all
+
+-- A source without its first a bytes, behind the carry that stands there.
+pub carry-drop : (scale carry : ℕ) (src : List ℕ) (a i : ℕ) → carryAt scale (carryAt scale carry src a) (drop a src) i ≡ carryAt scale carry src (a + i)
+unfolding carryAt
+carry-drop scale carry src a zero = ap (carryAt scale carry src) (sym (add-zero a))
+carry-drop scale carry src a (suc i) =
+    ap (λ (b : ℕ). b * scale % 256) (getD-drop a src i 0) ∙ ap (carryAt scale carry src) (sym (add-suc a i))
+
+pub shifted-drop : (scale carry : ℕ) (src : List ℕ) (a i : ℕ) → shifted scale (carryAt scale carry src a) (drop a src) i ≡ shifted scale carry src (a + i)
+unfolding shifted
+shifted-drop scale carry src a i =
+    let held = carry-drop scale carry src a i in
+    let byte = getD-drop a src i 0 in
+    λ t. (held t + byte t * scale / 256) % 256
+
+-- The tail's block completed, and the full blocks behind it.
+module _ (width size : ℕ) (state tail : List ℕ) (at scale carry : ℕ) (src : List ℕ) (whole : ℕ) (x : Crossing width size state tail at scale src whole) where
+  completing : table (length (take (size - at - 0) src)) (shifted scale carry (take (size - at - 0) src)) ≡ table (size - at) (shifted scale carry src)
+  completing =
+      ap (λ (n : ℕ). table (length (take n src)) (shifted scale carry (take n src))) (sub-zero (size - at))
+      ∙ shifted-take scale carry src (size - at) (omega (arith, x .within, x .first))
+
+  carried-on : carryAt scale carry (take (size - at - 0) src) (length (take (size - at - 0) src)) ≡ carryAt scale carry src (size - at)
+  carried-on =
+      ap (λ (n : ℕ). carryAt scale carry (take n src) (length (take n src))) (sub-zero (size - at))
+      ∙ carry-take scale carry src (size - at) (omega (arith, x .within, x .first))
+
+  pub crossed-state : (state₁ state₂ : List ℕ) (last : ℕ)
+      → state₁ ≡ padded 32 (compression (familyOf width) false (take (stateWords (familyOf width)) state)
+        (take at tail ++ table (length (take (size - at - 0) src)) (shifted scale carry (take (size - at - 0) src))))
+      → last ≡ carryAt scale carry (take (size - at - 0) src) (length (take (size - at - 0) src))
+      → state₂ ≡ padded 32 (absorbed (familyOf width) (take (stateWords (familyOf width)) state₁)
+        (table (whole - size) (shifted scale last (take (length src - (size - at)) (drop (size - at) src)))) ((whole - size) / blockBytes (familyOf width)))
+      → state₂ ≡ padded 32 (absorbed (familyOf width)
+        (compression (familyOf width) false (take (stateWords (familyOf width)) state) (take at tail ++ table (size - at) (shifted scale carry src)))
+        (table (whole - size) (shifted scale (carryAt scale carry src (size - at)) (drop (size - at) src))) ((whole - size) / blockBytes (familyOf width)))
+  crossed-state state₁ state₂ last one carries two =
+      let f = familyOf width in
+      let w = take (stateWords f) state in
+      let new = compression f false w (take at tail ++ table (size - at) (shifted scale carry src)) in
+      let held = carries ∙ carried-on in
+      let rest = back (size - at) src in
+      let came : take (stateWords f) state₁ ≡ new =
+          ap (take (stateWords f)) (one ∙ ap (λ (l : List ℕ). padded 32 (compression f false w (take at tail ++ l))) completing)
+          ∙ take-padded 32 (stateWords f) new (length-compression f false w (take at tail ++ table (size - at) (shifted scale carry src))) (words-within f) in
+      two ∙ λ i. padded 32 (absorbed f (came i) (table (whole - size) (shifted scale (held i) (rest i))) ((whole - size) / blockBytes f))
+
+  pub crossed-tail : (tail₁ tail₂ : List ℕ) (last : ℕ) → length tail₁ ≡ length tail
+      → last ≡ carryAt scale carry (take (size - at - 0) src) (length (take (size - at - 0) src))
+      → tail₂ ≡ table (length tail₁) (poured (table (length tail₁) (λ _. 0)) 0 scale
+        (carryAt scale last (take (length src - (size - at)) (drop (size - at) src)) (whole - size))
+        (drop (whole - size) (take (length src - (size - at)) (drop (size - at) src))))
+      → tail₂ ≡ table 128 (poured (table 128 (λ _. 0)) 0 scale (carryAt scale carry src (whole - at)) (drop (whole - at) src))
+  crossed-tail tail₁ tail₂ last long carries wrote =
+      let held = carries ∙ carried-on in
+      let rest = back (size - at) src in
+      let size128 = long ∙ x .bytes in
+      let place : size - at + (whole - size) ≡ whole - at = omega (arith, x .first, x .started) in
+      let carry₂ = (λ i. carryAt scale (held i) (rest i) (whole - size)) ∙ carry-drop scale carry src (size - at) (whole - size) ∙ ap (carryAt scale carry src) place in
+      let back₂ = ap (drop (whole - size)) rest ∙ drop-drop (whole - size) (size - at) src ∙ ap (λ (n : ℕ). drop n src) place in
+      wrote ∙ λ i. table (size128 i) (poured (table (size128 i) (λ _. 0)) 0 scale (carry₂ i) (back₂ i))

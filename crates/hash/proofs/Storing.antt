@@ -81,7 +81,7 @@ block-within : (f : Family) (n : ℕ) → n % blockBits f ≤ 8 * blockBytes f
 block-within small n = omega arith
 block-within large n = omega arith
 
-bytes-within : (f : Family) → blockBytes f ≤ 128
+pub bytes-within : (f : Family) → blockBytes f ≤ 128
 bytes-within small = omega arith
 bytes-within large = omega arith
 

@@ -3,12 +3,12 @@
 use mathlib.Core.Bool.{true, cond}
 use mathlib.Core.List.{List, _++_}
 use mathlib.Core.Path.{_≡_}
-use Prim.Native.Nat.{ℕ, zero, suc, _+_, _*_, _-_, _/_, _%_, _^_, _<_}
+use Prim.Native.Nat.{ℕ, zero, suc, _+_, _*_, _-_, _/_, _%_, _^_, _<_, _≤_}
 use lib.Dec.{leb, ltb}
 use lib.ListN.{length, getD, take, drop}
-use Rattle.simd.specs.Basic.{familyOf, blockBits, stateWords}
+use Rattle.simd.specs.Basic.{familyOf, blockBytes, blockBits, stateWords}
 use Rattle.simd.specs.Message.{bitsOf}
-use Rattle.hash.specs.Zero.{allZero, clear}
+use Rattle.hash.specs.Zero.{allZero, clear, padded}
 
 -- What goes into byte i before byte i of the source does.
 unfoldable pub carryAt : ℕ → ℕ → List ℕ → ℕ → ℕ
@@ -34,6 +34,18 @@ pub record Ready (width used : ℕ) (state tail src : List ℕ) (count : ℕ) : 
   pub source : length src ≡ (count + 7) / 8
   pub source-clear : clear count src ≡ true
   pub short : count < 2 ^ 33
+
+-- What a source asks that completes the tail's block, `at` bytes of which are there, and goes on to `whole` bytes of full blocks.
+pub record Crossing (width size : ℕ) (state tail : List ℕ) (at scale : ℕ) (src : List ℕ) (whole : ℕ) : Type 0 where
+  pub block : size ≡ blockBytes (familyOf width)
+  pub words : state ≡ padded 32 (take (stateWords (familyOf width)) state)
+  pub bytes : length tail ≡ 128
+  pub scaled : scale ≤ 256
+  pub started : at ≤ size
+  pub blocks : (whole - size) % blockBytes (familyOf width) ≡ 0
+  pub first : size ≤ whole
+  pub within : whole ≤ at + length src
+  pub rest : at + length src ≤ whole + 128
 
 -- The bits of the tail with those of the piece behind them.
 unfoldable pub joinedBits : ℕ → List ℕ → List ℕ → ℕ → List ℕ
