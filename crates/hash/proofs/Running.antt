@@ -219,13 +219,13 @@ module _ (width size : ℕ) (state tail : List ℕ) (at scale carry : ℕ) (src 
 
   pub crossed-state : (state₁ state₂ : List ℕ) (last : ℕ)
       → state₁ ≡ padded 32 (compression (familyOf width) false (take (stateWords (familyOf width)) state)
-        (take at tail ++ table (length (take (size - at - 0) src)) (shifted scale carry (take (size - at - 0) src))))
+      (take at tail ++ table (length (take (size - at - 0) src)) (shifted scale carry (take (size - at - 0) src))))
       → last ≡ carryAt scale carry (take (size - at - 0) src) (length (take (size - at - 0) src))
       → state₂ ≡ padded 32 (absorbed (familyOf width) (take (stateWords (familyOf width)) state₁)
-        (table (whole - size) (shifted scale last (take (length src - (size - at)) (drop (size - at) src)))) ((whole - size) / blockBytes (familyOf width)))
+      (table (whole - size) (shifted scale last (take (length src - (size - at)) (drop (size - at) src)))) ((whole - size) / blockBytes (familyOf width)))
       → state₂ ≡ padded 32 (absorbed (familyOf width)
-        (compression (familyOf width) false (take (stateWords (familyOf width)) state) (take at tail ++ table (size - at) (shifted scale carry src)))
-        (table (whole - size) (shifted scale (carryAt scale carry src (size - at)) (drop (size - at) src))) ((whole - size) / blockBytes (familyOf width)))
+      (compression (familyOf width) false (take (stateWords (familyOf width)) state) (take at tail ++ table (size - at) (shifted scale carry src)))
+      (table (whole - size) (shifted scale (carryAt scale carry src (size - at)) (drop (size - at) src))) ((whole - size) / blockBytes (familyOf width)))
   crossed-state state₁ state₂ last one carries two =
       let f = familyOf width in
       let w = take (stateWords f) state in
@@ -233,15 +233,15 @@ module _ (width size : ℕ) (state tail : List ℕ) (at scale carry : ℕ) (src 
       let held = carries ∙ carried-on in
       let rest = back (size - at) src in
       let came : take (stateWords f) state₁ ≡ new =
-          ap (take (stateWords f)) (one ∙ ap (λ (l : List ℕ). padded 32 (compression f false w (take at tail ++ l))) completing)
-          ∙ take-padded 32 (stateWords f) new (length-compression f false w (take at tail ++ table (size - at) (shifted scale carry src))) (words-within f) in
+      ap (take (stateWords f)) (one ∙ ap (λ (l : List ℕ). padded 32 (compression f false w (take at tail ++ l))) completing)
+      ∙ take-padded 32 (stateWords f) new (length-compression f false w (take at tail ++ table (size - at) (shifted scale carry src))) (words-within f) in
       two ∙ λ i. padded 32 (absorbed f (came i) (table (whole - size) (shifted scale (held i) (rest i))) ((whole - size) / blockBytes f))
 
   pub crossed-tail : (tail₁ tail₂ : List ℕ) (last : ℕ) → length tail₁ ≡ length tail
       → last ≡ carryAt scale carry (take (size - at - 0) src) (length (take (size - at - 0) src))
       → tail₂ ≡ table (length tail₁) (poured (table (length tail₁) (λ _. 0)) 0 scale
-        (carryAt scale last (take (length src - (size - at)) (drop (size - at) src)) (whole - size))
-        (drop (whole - size) (take (length src - (size - at)) (drop (size - at) src))))
+      (carryAt scale last (take (length src - (size - at)) (drop (size - at) src)) (whole - size))
+      (drop (whole - size) (take (length src - (size - at)) (drop (size - at) src))))
       → tail₂ ≡ table 128 (poured (table 128 (λ _. 0)) 0 scale (carryAt scale carry src (whole - at)) (drop (whole - at) src))
   crossed-tail tail₁ tail₂ last long carries wrote =
       let held = carries ∙ carried-on in

@@ -373,39 +373,60 @@ fn bytes_of_blocks(width: u16, blocks: usize) -> usize
 }
 
 // Completes the tail's block of `size` bytes, compresses it and the full blocks behind it, `whole` bytes in all, and makes the rest the tail.
-fn cross(width: u16, size: usize, state: &mut [u32; 32], tail: &mut [u8], at: usize, scale: u16, carry: u8, src: &[u8], whole: usize)
+fn cross(
+    width: u16,
+    size: usize,
+    state: &mut [u32; 32],
+    tail: &mut [u8],
+    at: usize,
+    scale: u16,
+    carry: u8,
+    src: &[u8],
+    whole: usize,
+)
     requires { ⌜ Crossing width size (now state) (now tail) at scale (now src) whole ⌝ }
-    ensures {
-        λ _. ⌜ (now (state .exit)
-            ≡ padded 32 (absorbed (familyOf width)
-                (compression (familyOf width) false (take (stateWords (familyOf width)) (now (state .entry)))
-                    (take at (now (tail .entry)) ++ table (size - at) (shifted scale carry (now (src .entry)))))
-                (table (whole - size)
-                    (shifted scale (carryAt scale carry (now (src .entry)) (size - at)) (drop (size - at) (now (src .entry)))))
-                ((whole - size) / blockBytes (familyOf width))))
-            × (now (tail .exit)
-            ≡ table 128 (poured (table 128 (λ _. 0)) 0 scale
-                (carryAt scale carry (now (src .entry)) (whole - at)) (drop (whole - at) (now (src .entry))))) ⌝
-    }
+    ensures { λ _. ⌜ (now (state .exit)
+        ≡ padded 32 (absorbed (familyOf width)
+        (compression (familyOf width) false (take (stateWords (familyOf width)) (now (state .entry)))
+        (take at (now (tail .entry)) ++ table (size - at) (shifted scale carry (now (src .entry)))))
+        (table (whole - size)
+        (shifted scale (carryAt scale carry (now (src .entry)) (size - at)) (drop (size - at) (now (src .entry)))))
+        ((whole - size) / blockBytes (familyOf width))))
+        × (now (tail .exit)
+        ≡ table 128 (poured (table 128 (λ _. 0)) 0 scale
+        (carryAt scale carry (now (src .entry)) (whole - at)) (drop (whole - at) (now (src .entry))))) ⌝ }
 {
     let end = src.len();
     let room = size - at;
     let last = complete(width, state, tail, at, scale, carry, &src[0..room]);
-    flow(width, state, tail, scale, last, &src[room..end], whole - size);
+    flow(
+        width,
+        state,
+        tail,
+        scale,
+        last,
+        &src[room..end],
+        whole - size,
+    );
 }
 
 // Puts the bits of a piece behind those of the tail: compresses each block that becomes full, and gives their number.
-fn advance(width: u16, used: usize, state: &mut [u32; 32], tail: &mut [u8], src: &[u8], count: usize) -> usize
+fn advance(
+    width: u16,
+    used: usize,
+    state: &mut [u32; 32],
+    tail: &mut [u8],
+    src: &[u8],
+    count: usize,
+) -> usize
     requires { ⌜ Ready width used (now state) (now tail) (now src) count ⌝ }
-    ensures {
-        λ r. ⌜ (now (state .exit)
-            ≡ padded 32 (chain (familyOf width) (take (stateWords (familyOf width)) (now (state .entry)))
-                (joinedBits used (now (tail .entry)) (now (src .entry)) count) ((used + count) / blockBits (familyOf width))))
-            × (now (tail .exit)
-            ≡ table 128 (byteOf (drop (blockBits (familyOf width) * ((used + count) / blockBits (familyOf width)))
-                (joinedBits used (now (tail .entry)) (now (src .entry)) count))))
-            × (r ≡ (used + count) / blockBits (familyOf width)) ⌝
-    }
+    ensures { λ r. ⌜ (now (state .exit)
+        ≡ padded 32 (chain (familyOf width) (take (stateWords (familyOf width)) (now (state .entry)))
+        (joinedBits used (now (tail .entry)) (now (src .entry)) count) ((used + count) / blockBits (familyOf width))))
+        × (now (tail .exit)
+        ≡ table 128 (byteOf (drop (blockBits (familyOf width) * ((used + count) / blockBits (familyOf width)))
+        (joinedBits used (now (tail .entry)) (now (src .entry)) count))))
+        × (r ≡ (used + count) / blockBits (familyOf width)) ⌝ }
 {
     let blocks = full_blocks(width, used + count);
     let at = used / 8;

@@ -53,10 +53,13 @@ flow-requires c κs =
     let a = s .args in
     let done = c .before .before .before .before .before .complete in
     let f = familyOf (a .width) in
-    let rest = ap length (back (a .size - a .at) (a .src .now)) ∙ length-drop (a .size - a .at) (a .src .now) in
-    (refit f (done .last .1 .0) _ (length-compression f false (take (stateWords f) (a .state .now)) _) (done .ensures .0), s .pre .scaled, s .pre .blocks,
-    omega (arith, rest, s .pre .first, s .pre .within, s .pre .started),
-    omega (arith, rest, s .pre .first, s .pre .within, s .pre .started, s .pre .rest, s .pre .bytes, done .kept .1 .1 .0))
+    let rest = ap length (back (a .size - a .at) (a .src .now)) ∙ length-drop (a .size - a .at) (a .src .now) in (
+      refit f (done .last .1 .0) _ (length-compression f false (take (stateWords f) (a .state .now)) _) (done .ensures .0),
+      s .pre .scaled,
+      s .pre .blocks,
+      omega (arith, rest, s .pre .first, s .pre .within, s .pre .started),
+      omega (arith, rest, s .pre .first, s .pre .within, s .pre .started, s .pre .rest, s .pre .bytes, done .kept .1 .1 .0),
+    )
 
 same-length : tie.Need-same-length
 same-length c = search needs
@@ -66,11 +69,12 @@ returns c =
     let s = c .before .before .before .before .before .before .before .before .before .before .before .before .before .before in
     let a = s .args in
     let first = c .before .before .before .before .before .before .before .before .complete in
-    let flow = c .before .before .flow in
-    (crossed-state (a .width) (a .size) (a .state .now) (a .tail .now) (a .at) (a .scale) (a .carry) (a .src .now) (a .whole) (s .pre)
-    (first .last .1 .0) (flow .last .1 .0) (first .result) (first .ensures .0) (first .ensures .1) (flow .ensures .0),
-    crossed-tail (a .width) (a .size) (a .state .now) (a .tail .now) (a .at) (a .scale) (a .carry) (a .src .now) (a .whole) (s .pre)
-    (first .last .1 .1 .0) (flow .last .1 .1 .0) (first .result) (first .kept .1 .1 .0) (first .ensures .1) (flow .ensures .1))
+    let flow = c .before .before .flow in (
+      crossed-state (a .width) (a .size) (a .state .now) (a .tail .now) (a .at) (a .scale) (a .carry) (a .src .now) (a .whole) (s .pre)
+          (first .last .1 .0) (flow .last .1 .0) (first .result) (first .ensures .0) (first .ensures .1) (flow .ensures .0),
+      crossed-tail (a .width) (a .size) (a .state .now) (a .tail .now) (a .at) (a .scale) (a .carry) (a .src .now) (a .whole) (s .pre)
+          (first .last .1 .1 .0) (flow .last .1 .1 .0) (first .result) (first .kept .1 .1 .0) (first .ensures .1) (flow .ensures .1),
+    )
 
 pub cross-spec : {M : Type 1} → statement M
 cross-spec =
