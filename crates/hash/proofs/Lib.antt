@@ -10,3 +10,6 @@ pub mod Parts
 pub mod Absorbing
 pub mod Running
 pub mod Advancing
+pub mod Refusing
+pub mod Starting
+pub mod Closing

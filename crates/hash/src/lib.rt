@@ -4,16 +4,22 @@
 
 ghost use mathlib.Core.Bool.{Bool, true, false};
 ghost use mathlib.Core.Path.{_≡_};
-ghost use mathlib.Core.List.{_++_};
+ghost use mathlib.Core.List.{[], _++_};
 ghost use Prim.Native.Nat.{ℕ, suc, min, _+_, _*_, _-_, _/_, _%_, _^_, _≤_, _<_};
 ghost use lib.ListN.{length, getD, take, drop};
-ghost use Rattle.simd.specs.Basic.{familyOf, isWidth, blockBytes, blockBits, stateWords, table};
-ghost use Rattle.simd.specs.Message.{byteOf, lengthBlock};
+ghost use Rattle.simd.specs.Basic.{familyOf, isWidth, blockBytes, blockBits, stateWords, bytesOf, wordsOf, table};
+ghost use Rattle.simd.specs.Constants.{start};
+ghost use Rattle.simd.specs.Message.{bitsOf, byteOf, messageBlocks, lengthBlock};
 ghost use Rattle.simd.specs.Steps.{compression};
-ghost use Rattle.simd.specs.Hash.{chain};
+ghost use Rattle.simd.specs.Hash.{chain, compressions};
 ghost use Rattle.compression.specs.Absorbed.{absorbed};
 ghost use Rattle.hash.specs.Zero.{allZero, clear, padded};
+ghost use Rattle.hash.specs.Open.{holding, legal, openAnswer, pieceRefusal, feedRefusal, feedAnswer, digestOf, takeRefusal, takeAnswer, written};
+ghost use Rattle.hash.specs.Form.{littleEndian, formWidth, formBits, formOf, hashOf, storeRefusal, storeAnswer, restoreRefusal, restoreAnswer};
 ghost use Rattle.hash.specs.Shift.{carryAt, shifted, poured, Ready, Crossing, joinedBits};
+
+// The longest message, in bits.
+const LIMIT: usize = 4294967295;
 
 // The words past the family's state and the bits past the tail are 0.
 pub struct Hash {
@@ -444,4 +450,182 @@ fn advance(
     let size = block_bytes(width);
     cross(width, size, state, tail, at, scale, carry, src, whole);
     blocks
+}
+
+// The bits in the tail of a hash of so many bits.
+fn used_bits(width: u16, bits: u32) -> usize
+    ensures { λ r. ⌜ r ≡ bits % blockBits (familyOf width) ⌝ }
+{
+    if width <= 256 {
+        (bits % 512) as usize
+    } else {
+        (bits % 1024) as usize
+    }
+}
+
+// Whether a hash is one of the four widths with no bit set past the family's state, block or tail.
+fn is_legal(hash: Hash) -> bool
+    ensures { λ r. ⌜ r ≡ legal hash ⌝ }
+{
+    let width = hash.width;
+    let bits = hash.bits;
+    let state = hash.state;
+    let tail = hash.tail;
+    if !is_width(width) {
+        return false;
+    }
+    if !words_zero(&state, block_bytes(width) / 4) {
+        return false;
+    }
+    bits_zero(&tail, used_bits(width, bits))
+}
+
+// The number of a piece's refusal after so many bits, or 0.
+pub fn piece_refusal(bits: u32, piece: &[u8], count: usize) -> u8
+    ensures { λ r. ⌜ r ≡ pieceRefusal bits (now (piece .entry)) count ⌝ }
+{
+    let bytes = count / 8 + (count % 8 + 7) / 8;
+    if piece.len() < bytes {
+        return 2;
+    }
+    if !bits_zero(&piece[0..bytes], count) {
+        return 3;
+    }
+    if LIMIT - (bits as usize) < count {
+        return 4;
+    }
+    0
+}
+
+fn feed_refusal(hash: Hash, piece: &[u8], count: usize) -> u8
+    ensures { λ r. ⌜ r ≡ feedRefusal hash (now (piece .entry)) count ⌝ }
+{
+    let bits = hash.bits;
+    if is_legal(hash) {
+        piece_refusal(bits, piece, count)
+    } else {
+        5
+    }
+}
+
+fn take_refusal(hash: Hash, out: &[u8]) -> u8
+    ensures { λ r. ⌜ r ≡ takeRefusal hash (now (out .entry)) ⌝ }
+{
+    let width = hash.width;
+    if is_legal(hash) {
+        if (width / 8) as usize <= out.len() {
+            0
+        } else {
+            6
+        }
+    } else {
+        5
+    }
+}
+
+fn store_refusal(hash: Hash, out: &[u8]) -> u8
+    ensures { λ r. ⌜ r ≡ storeRefusal hash (now (out .entry)) ⌝ }
+{
+    let width = hash.width;
+    if is_legal(hash) {
+        if 6 + 2 * block_bytes(width) <= out.len() {
+            0
+        } else {
+            6
+        }
+    } else {
+        5
+    }
+}
+
+fn zero_hash() -> Hash
+    ensures { λ r. ⌜ r ≡ holding 0 0 [] [] ⌝ }
+{
+    Hash {
+        width: 0,
+        bits: 0,
+        state: [0u32; 32],
+        tail: [0u8; 128],
+    }
+}
+
+fn no_tail() -> [u8; 128]
+    ensures { λ r. ⌜ r ≡ table 128 (byteOf []) ⌝ }
+{
+    [0u8; 128]
+}
+
+// The starting state of a width.
+fn start_state(width: u16) -> [u32; 32]
+    ensures { λ r. ⌜ r ≡ padded 32 (start width) ⌝ }
+{
+    if width == 224 {
+        return widen(compression::start_224());
+    }
+    if width == 256 {
+        return widen(compression::start_256());
+    }
+    if width == 384 {
+        return compression::start_384();
+    }
+    compression::start_512()
+}
+
+// Compresses the tail, filled with zeros, where it holds a bit, and then the length block. Gives the number of compressions.
+fn close(width: u16, bits: u32, state: &mut [u32; 32], tail: &[u8]) -> usize
+    requires { ⌜ (length (now state) ≡ 32) × (length (now tail) ≡ 128) × (clear (bits % blockBits (familyOf width)) (now tail) ≡ true) ⌝ }
+    ensures { λ r. ⌜ (now (state .exit)
+        ≡ padded 32 (compression (familyOf width) true
+        (chain (familyOf width) (take (stateWords (familyOf width)) (now (state .entry)))
+        (take (bits % blockBits (familyOf width)) (bitsOf (now (tail .entry))))
+        (messageBlocks (familyOf width) (bits % blockBits (familyOf width))))
+        (lengthBlock (familyOf width) bits)))
+        × (r ≡ compressions (familyOf width) (bits % blockBits (familyOf width))) ⌝ }
+{
+    if used_bits(width, bits) == 0 {
+        finish(width, state, bits as u64);
+        return 1;
+    }
+    let size = block_bytes(width);
+    absorb(width, state, &tail[0..size]);
+    finish(width, state, bits as u64);
+    2
+}
+
+// Writes the bytes of words, low byte first, as many as the buffer takes.
+fn write_words(out: &mut [u8], words: [u32; 32])
+    requires { ⌜ length (now out) ≤ 128 ⌝ }
+    ensures { λ _. ⌜ now (out .exit) ≡ take (length (now (out .entry))) (bytesOf words) ⌝ }
+{
+    let mut i = 0;
+    while i < out.len() {
+        let word = words[i / 4];
+        out[i] = ((word >> (8 * (i % 4))) % 256) as u8;
+        i += 1;
+    }
+}
+
+// Writes a number, low byte first.
+fn write_number(out: &mut [u8], number: u64)
+    ensures { λ _. ⌜ now (out .exit) ≡ littleEndian (length (now (out .entry))) number ⌝ }
+{
+    let mut rest = number;
+    let mut i = 0;
+    while i < out.len() {
+        out[i] = (rest % 256) as u8;
+        rest = rest / 256;
+        i += 1;
+    }
+}
+
+// Writes the first bytes of a source, as many as the buffer takes.
+fn write_bytes(out: &mut [u8], src: &[u8])
+    requires { ⌜ length (now out) ≤ length (now src) ⌝ }
+    ensures { λ _. ⌜ now (out .exit) ≡ take (length (now (out .entry))) (now (src .entry)) ⌝ }
+{
+    let mut i = 0;
+    while i < out.len() {
+        out[i] = src[i];
+        i += 1;
+    }
 }
