@@ -56,11 +56,11 @@ copied-none n from =
       rest = λ k _. zero-element n k;
     }
 
-pub copied-more : (n i : ℕ) (from xs : List ℕ) → Copied n i from xs → i < n → Copied n (i + 1) from (set xs i (getD from i 0))
-copied-more n i from xs c below =
+pub copied-more : (n i : ℕ) (from xs : List ℕ) (x : ℕ) → Copied n i from xs → i < n → x ≡ getD from i 0 → Copied n (i + 1) from (set xs i x)
+copied-more n i from xs x c below same =
     record {
-      filled = filled-more n i (λ k. getD from k 0) xs (getD from i 0) (c .filled) below refl;
-      rest = λ k after. getD-set-other xs i k (getD from i 0) 0 (λ same. omega arith) ∙ c .rest k (omega arith);
+      filled = filled-more n i (λ k. getD from k 0) xs x (c .filled) below same;
+      rest = λ k after. getD-set-other xs i k x 0 (λ equal. omega arith) ∙ c .rest k (omega arith);
     }
 
 pub copied-all : (n i : ℕ) (from xs : List ℕ) → Copied n i from xs → length from ≤ i → xs ≡ padded n from

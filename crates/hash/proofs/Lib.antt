@@ -13,3 +13,4 @@ pub mod Advancing
 pub mod Refusing
 pub mod Starting
 pub mod Closing
+pub mod Forming

@@ -1,11 +1,11 @@
 -- Laws of a list in whose middle a part was put.
-use mathlib.Core.List.{List, _++_}
+use mathlib.Core.List.{List, _++_, append-assoc}
 use mathlib.Core.Path.{_≡_, refl, sym, ap, _∙_}
 use Prim.Native.Nat.{ℕ, _+_, _-_, _<_, _≤_}
 use native.Mathlib.Omega.{arith}
 use borrow.Rule.Slice.PartMut.{midOf, putMid, postOf, drop-put, same-len-mid, mid-len}
 use lib.ListN.{length, getD, take, drop, length-append, length-take, length-drop, List·getD-append}
-use lib.Seq.{take-all, getD-append-add, getD-take, getD-drop}
+use lib.Seq.{take-all, take-at, getD-append-add, getD-take, getD-drop}
 
 pub part-size : (a n : ℕ) (xs : List ℕ) → a + n ≤ length xs → length (midOf a (a + n - a) xs) ≡ n
 part-size a n xs within = mid-len a (a + n) xs within ∙ omega arith
@@ -39,3 +39,10 @@ module _ (a e : ℕ) (xs ys : List ℕ) (order : a ≤ e) (within : e ≤ length
 
   pub put-length : length (putMid a (e - a) xs ys) ≡ length xs
   put-length = same-len-mid a (e - a) xs ys (fits ∙ sym (mid-len a e xs within))
+
+-- The front of a list, with a part put behind what is there.
+pub put-front : (a e : ℕ) (xs ys p : List ℕ) → a ≤ e → e ≤ length xs → length ys ≡ e - a → take a xs ≡ p → take e (putMid a (e - a) xs ys) ≡ p ++ ys
+put-front a e xs ys p order within fits front =
+    ap (take e) (sym (append-assoc (take a xs) ys (postOf a (e - a) xs)))
+    ∙ take-at (take a xs ++ ys) (postOf a (e - a) xs) e (omega (arith, length-append (take a xs) ys, length-take a xs))
+    ∙ ap (λ (l : List ℕ). l ++ ys) front

@@ -15,7 +15,7 @@ ghost use Rattle.simd.specs.Hash.{chain, compressions};
 ghost use Rattle.compression.specs.Absorbed.{absorbed};
 ghost use Rattle.hash.specs.Zero.{allZero, clear, padded};
 ghost use Rattle.hash.specs.Open.{holding, legal, openAnswer, pieceRefusal, feedRefusal, feedAnswer, digestOf, takeRefusal, takeAnswer, written};
-ghost use Rattle.hash.specs.Form.{littleEndian, formWidth, formBits, formOf, hashOf, storeRefusal, storeAnswer, restoreRefusal, restoreAnswer};
+ghost use Rattle.hash.specs.Form.{littleEndian, number, formWidth, formBits, formOf, hashOf, storeRefusal, storeAnswer, restoreRefusal, restoreAnswer};
 ghost use Rattle.hash.specs.Shift.{carryAt, shifted, poured, Ready, Crossing, joinedBits};
 
 // The longest message, in bits.
@@ -627,5 +627,222 @@ fn write_bytes(out: &mut [u8], src: &[u8])
     while i < out.len() {
         out[i] = src[i];
         i += 1;
+    }
+}
+
+// Writes the stored form of a hash.
+fn write_form(width: u16, bits: u32, state: [u32; 32], tail: &[u8], size: usize, out: &mut [u8])
+    requires { ⌜ (length (now out) ≡ 6 + 2 * size) × (size ≤ 128) × (length (now tail) ≡ 128) ⌝ }
+    ensures {
+        λ _. ⌜ now (out .exit)
+            ≡ littleEndian 2 width ++ littleEndian 4 bits ++ take size (bytesOf state) ++ take size (now (tail .entry)) ⌝
+    }
+{
+    let middle = 6 + size;
+    let end = middle + size;
+    write_number(&mut out[0..2], width as u64);
+    write_number(&mut out[2..6], bits as u64);
+    write_words(&mut out[6..middle], state);
+    write_bytes(&mut out[middle..end], tail);
+}
+
+// A word of a form, low byte first.
+fn read_word(form: &[u8], at: usize) -> u32
+    requires { ⌜ at + 4 ≤ length (now form) ⌝ }
+    ensures { λ r. ⌜ r ≡ number 4 (drop at (now (form .entry))) ⌝ }
+{
+    let a = wide(form[at]) as u32;
+    let b = wide(form[at + 1]) as u32;
+    let c = wide(form[at + 2]) as u32;
+    let d = wide(form[at + 3]) as u32;
+    a + 256 * b + 65536 * c + 16777216 * d
+}
+
+fn read_width(form: &[u8]) -> u16
+    requires { ⌜ 2 ≤ length (now form) ⌝ }
+    ensures { λ r. ⌜ r ≡ formWidth (now (form .entry)) ⌝ }
+{
+    wide(form[0]) + 256 * wide(form[1])
+}
+
+// The state of a form, in so many words.
+fn read_state(form: &[u8], words: usize) -> [u32; 32]
+    requires { ⌜ (words ≤ 32) × (6 + 4 * words ≤ length (now form)) ⌝ }
+    ensures { λ r. ⌜ r ≡ padded 32 (wordsOf words (drop 6 (now (form .entry)))) ⌝ }
+{
+    let mut state = [0u32; 32];
+    let mut i = 0;
+    while i < words {
+        state[i] = read_word(form, 6 + 4 * i);
+        i += 1;
+    }
+    state
+}
+
+fn read_tail(bytes: &[u8]) -> [u8; 128]
+    requires { ⌜ length (now bytes) ≤ 128 ⌝ }
+    ensures { λ r. ⌜ r ≡ padded 128 (now (bytes .entry)) ⌝ }
+{
+    let mut tail = no_tail();
+    let mut i = 0;
+    while i < bytes.len() {
+        tail[i] = bytes[i];
+        i += 1;
+    }
+    tail
+}
+
+fn restore_refusal(form: &[u8]) -> u8
+    ensures { λ r. ⌜ r ≡ restoreRefusal (now (form .entry)) ⌝ }
+{
+    let length = form.len();
+    if length < 2 {
+        return 8;
+    }
+    let width = read_width(form);
+    if !is_width(width) {
+        return 1;
+    }
+    let middle = 6 + block_bytes(width);
+    if length != middle + block_bytes(width) {
+        return 8;
+    }
+    if bits_zero(&form[middle..length], used_bits(width, read_word(form, 2))) {
+        0
+    } else {
+        9
+    }
+}
+
+impl Hash {
+    // Opens a hash at a width. Refusal 1.
+    pub fn open(width: u16) -> Opened
+        ensures { λ r. ⌜ r ≡ openAnswer width ⌝ }
+    {
+        if is_width(width) {
+            let state = start_state(width);
+            let tail = no_tail();
+            let hash = Hash {
+                width,
+                bits: 0,
+                state,
+                tail,
+            };
+            return Opened { hash, refusal: 0 };
+        }
+        let hash = zero_hash();
+        Opened { hash, refusal: 1 }
+    }
+
+    // Feeds the first `count` bits of a piece. Refusals 5, 2, 3, 4.
+    pub fn feed(self, piece: &[u8], count: usize) -> Fed
+        ensures { λ r. ⌜ r ≡ feedAnswer self (now (piece .entry)) count ⌝ }
+    {
+        let refusal = feed_refusal(self, piece, count);
+        if refusal != 0 {
+            return Fed {
+                hash: self,
+                blocks: 0,
+                refusal,
+            };
+        }
+        let width = self.width;
+        let bits = self.bits;
+        let mut state = self.state;
+        let mut tail = self.tail;
+        let bytes = (count + 7) / 8;
+        let blocks = advance(width, used_bits(width, bits), &mut state, &mut tail, &piece[0..bytes], count);
+        let hash = Hash {
+            width,
+            bits: (bits as usize + count) as u32,
+            state,
+            tail,
+        };
+        Fed {
+            hash,
+            blocks,
+            refusal: 0,
+        }
+    }
+
+    // Writes the digest of all bits fed so far; the hash stays open. Refusals 5, 6.
+    pub fn take(self, out: &mut [u8]) -> Taken
+        ensures {
+            λ r. ⌜ (r ≡ takeAnswer self (now (out .entry)))
+                × (now (out .exit) ≡ written (takeRefusal self (now (out .entry))) (digestOf self) (now (out .entry))) ⌝
+        }
+    {
+        let refusal = take_refusal(self, out);
+        if refusal != 0 {
+            return Taken {
+                hash: self,
+                blocks: 0,
+                refusal,
+            };
+        }
+        let width = self.width;
+        let bits = self.bits;
+        let mut state = self.state;
+        let tail = self.tail;
+        let blocks = close(width, bits, &mut state, &tail);
+        let length = (width / 8) as usize;
+        write_words(&mut out[0..length], state);
+        Taken {
+            hash: self,
+            blocks,
+            refusal: 0,
+        }
+    }
+
+    // Writes the stored form: 134 or 262 bytes. Refusals 5, 6.
+    pub fn store(self, out: &mut [u8]) -> Stored
+        ensures {
+            λ r. ⌜ (r ≡ storeAnswer self (now (out .entry)))
+                × (now (out .exit) ≡ written (storeRefusal self (now (out .entry))) (formOf self) (now (out .entry))) ⌝
+        }
+    {
+        let refusal = store_refusal(self, out);
+        if refusal != 0 {
+            return Stored {
+                hash: self,
+                refusal,
+            };
+        }
+        let width = self.width;
+        let bits = self.bits;
+        let state = self.state;
+        let tail = self.tail;
+        let size = block_bytes(width);
+        let length = 6 + 2 * size;
+        write_form(width, bits, state, &tail, size, &mut out[0..length]);
+        Stored {
+            hash: self,
+            refusal: 0,
+        }
+    }
+
+    // The hash of a stored form. Refusals 8, 1, 8, 9.
+    pub fn restore(form: &[u8]) -> Opened
+        ensures { λ r. ⌜ r ≡ restoreAnswer (now (form .entry)) ⌝ }
+    {
+        let refusal = restore_refusal(form);
+        if refusal != 0 {
+            let hash = zero_hash();
+            return Opened { hash, refusal };
+        }
+        let width = read_width(form);
+        let bits = read_word(form, 2);
+        let size = block_bytes(width);
+        let state = read_state(form, size / 4);
+        let middle = 6 + size;
+        let end = form.len();
+        let tail = read_tail(&form[middle..end]);
+        let hash = Hash {
+            width,
+            bits,
+            state,
+            tail,
+        };
+        Opened { hash, refusal: 0 }
     }
 }

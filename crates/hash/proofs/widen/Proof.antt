@@ -37,7 +37,7 @@ loop-less c = search needs
 loop-again : tie.Need-loop-again Inv-loop μ-loop
 loop-again c =
     let l = c .before .loop in
-    (search needs, copied-more 32 (l .i) (c .before .before .args .t1) (l .words) (l .inv .1) (omega arith))
+    (search needs, copied-more 32 (l .i) (c .before .before .args .t1) (l .words) _ (l .inv .1) (omega arith) refl)
 
 returns : tie.Need-returns Inv-loop μ-loop
 returns c =
