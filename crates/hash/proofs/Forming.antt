@@ -20,11 +20,11 @@ use Rattle.hash.proofs.Storing.{length-littleEndian}
 
 -- Four parts written one behind the other.
 module _ (width bits size : ℕ) (state tail out : List ℕ) (whole : length out ≡ 6 + 2 * size) (short : size ≤ 128) (words : length state ≡ 32) (bytes : length tail ≡ 128)
-         (x₁ x₂ x₃ x₄ : List ℕ)
-         (w₁ : x₁ ≡ littleEndian (length (midOf 0 2 out)) width)
-         (w₂ : x₂ ≡ littleEndian (length (midOf 2 4 (putMid 0 2 out x₁))) bits)
-         (w₃ : x₃ ≡ take (length (midOf 6 (6 + size - 6) (putMid 2 4 (putMid 0 2 out x₁) x₂))) (bytesOf state))
-         (w₄ : x₄ ≡ take (length (midOf (6 + size) (6 + size + size - (6 + size)) (putMid 6 (6 + size - 6) (putMid 2 4 (putMid 0 2 out x₁) x₂) x₃))) tail) where
+    (x₁ x₂ x₃ x₄ : List ℕ)
+    (w₁ : x₁ ≡ littleEndian (length (midOf 0 2 out)) width)
+    (w₂ : x₂ ≡ littleEndian (length (midOf 2 4 (putMid 0 2 out x₁))) bits)
+    (w₃ : x₃ ≡ take (length (midOf 6 (6 + size - 6) (putMid 2 4 (putMid 0 2 out x₁) x₂))) (bytesOf state))
+    (w₄ : x₄ ≡ take (length (midOf (6 + size) (6 + size + size - (6 + size)) (putMid 6 (6 + size - 6) (putMid 2 4 (putMid 0 2 out x₁) x₂) x₃))) tail) where
   one : x₁ ≡ littleEndian 2 width
   one = w₁ ∙ ap (λ (n : ℕ). littleEndian n width) (mid-len 0 2 out (omega arith))
 
@@ -59,7 +59,7 @@ module _ (width bits size : ℕ) (state tail out : List ℕ) (whole : length out
       let n : 6 + size + size - (6 + size) ≡ size = omega arith in
       w₄
       ∙ ap (λ (n : ℕ). take n tail)
-        (mid-len (6 + size) (6 + size + size) (putMid 6 (6 + size - 6) (putMid 2 4 (putMid 0 2 out x₁) x₂) x₃) (omega (arith, long₃)) ∙ n)
+      (mid-len (6 + size) (6 + size + size) (putMid 6 (6 + size - 6) (putMid 2 4 (putMid 0 2 out x₁) x₂) x₃) (omega (arith, long₃)) ∙ n)
 
   size₄ : length x₄ ≡ size
   size₄ = ap length four ∙ omega (arith, length-take size tail)
@@ -75,9 +75,9 @@ module _ (width bits size : ℕ) (state tail out : List ℕ) (whole : length out
       let f₂ : take 6 b ≡ x₁ ++ x₂ = put-front 2 6 a x₂ x₁ (omega arith) (omega (arith, long₁)) size₂ f₁ in
       let f₃ : take (6 + size) c ≡ x₁ ++ x₂ ++ x₃ = put-front 6 (6 + size) b x₃ (x₁ ++ x₂) (omega arith) (omega (arith, long₂)) (omega (arith, size₃)) f₂ in
       let f₄ : take (6 + size + size) d ≡ x₁ ++ x₂ ++ x₃ ++ x₄ =
-          put-front (6 + size) (6 + size + size) c x₄ (x₁ ++ x₂ ++ x₃) (omega arith) (omega (arith, long₃)) (omega (arith, size₄)) f₃ in
+      put-front (6 + size) (6 + size + size) c x₄ (x₁ ++ x₂ ++ x₃) (omega arith) (omega (arith, long₃)) (omega (arith, size₄)) f₃ in
       let long₄ : length d ≡ length out =
-          put-length (6 + size) (6 + size + size) c x₄ (omega arith) (omega (arith, long₃)) (omega (arith, size₄)) ∙ long₃ in
+      put-length (6 + size) (6 + size + size) c x₄ (omega arith) (omega (arith, long₃)) (omega (arith, size₄)) ∙ long₃ in
       sym (take-all (6 + size + size) d (omega (arith, long₄))) ∙ f₄ ∙ λ i. one i ++ two i ++ three i ++ four i
 
 -- Numbers read.

@@ -14,3 +14,4 @@ pub mod Refusing
 pub mod Starting
 pub mod Closing
 pub mod Forming
+pub mod Answers

@@ -190,7 +190,7 @@ pub record Accepted (form : List ℕ) : Type 0 where
   pub size : length form ≡ formBytes (formFamily form)
   pub clean : clear (formBits form % blockBits (formFamily form)) (drop (6 + blockBytes (formFamily form)) form) ≡ true
 
-passed : (test : Bool) (x n : ℕ) → cond test x (suc n) ≡ 0 → (test ≡ true) × (x ≡ 0)
+pub passed : (test : Bool) (x n : ℕ) → cond test x (suc n) ≡ 0 → (test ≡ true) × (x ≡ 0)
 passed true x n e = (refl, e)
 passed false x n e = absurd (omega arith)
 

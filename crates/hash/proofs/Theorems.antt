@@ -213,7 +213,7 @@ take-blocks h out good room =
     take-whole h out good room ∙ λ i. record { hash = h; blocks = blocks i; refusal = 0 }
 
 -- The digest of a hash is width / 8 bytes.
-digest-room : (width : ℕ) → isWidth width ≡ true → width / 8 ≤ 4 * stateWords (familyOf width)
+pub digest-room : (width : ℕ) → isWidth width ≡ true → width / 8 ≤ 4 * stateWords (familyOf width)
 digest-room = at-widths (λ (w : ℕ). w / 8 ≤ 4 * stateWords (familyOf w)) (lit≤ tt) (lit≤ tt) (lit≤ tt) (lit≤ tt)
 
 pub digest-length : (h : Hash) → legal h ≡ true → length (digestOf h) ≡ h .width / 8

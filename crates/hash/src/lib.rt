@@ -633,10 +633,8 @@ fn write_bytes(out: &mut [u8], src: &[u8])
 // Writes the stored form of a hash.
 fn write_form(width: u16, bits: u32, state: [u32; 32], tail: &[u8], size: usize, out: &mut [u8])
     requires { ⌜ (length (now out) ≡ 6 + 2 * size) × (size ≤ 128) × (length (now tail) ≡ 128) ⌝ }
-    ensures {
-        λ _. ⌜ now (out .exit)
-            ≡ littleEndian 2 width ++ littleEndian 4 bits ++ take size (bytesOf state) ++ take size (now (tail .entry)) ⌝
-    }
+    ensures { λ _. ⌜ now (out .exit)
+        ≡ littleEndian 2 width ++ littleEndian 4 bits ++ take size (bytesOf state) ++ take size (now (tail .entry)) ⌝ }
 {
     let middle = 6 + size;
     let end = middle + size;
@@ -751,7 +749,14 @@ impl Hash {
         let mut state = self.state;
         let mut tail = self.tail;
         let bytes = (count + 7) / 8;
-        let blocks = advance(width, used_bits(width, bits), &mut state, &mut tail, &piece[0..bytes], count);
+        let blocks = advance(
+            width,
+            used_bits(width, bits),
+            &mut state,
+            &mut tail,
+            &piece[0..bytes],
+            count,
+        );
         let hash = Hash {
             width,
             bits: (bits as usize + count) as u32,
@@ -767,10 +772,8 @@ impl Hash {
 
     // Writes the digest of all bits fed so far; the hash stays open. Refusals 5, 6.
     pub fn take(self, out: &mut [u8]) -> Taken
-        ensures {
-            λ r. ⌜ (r ≡ takeAnswer self (now (out .entry)))
-                × (now (out .exit) ≡ written (takeRefusal self (now (out .entry))) (digestOf self) (now (out .entry))) ⌝
-        }
+        ensures { λ r. ⌜ (r ≡ takeAnswer self (now (out .entry)))
+            × (now (out .exit) ≡ written (takeRefusal self (now (out .entry))) (digestOf self) (now (out .entry))) ⌝ }
     {
         let refusal = take_refusal(self, out);
         if refusal != 0 {
@@ -796,10 +799,8 @@ impl Hash {
 
     // Writes the stored form: 134 or 262 bytes. Refusals 5, 6.
     pub fn store(self, out: &mut [u8]) -> Stored
-        ensures {
-            λ r. ⌜ (r ≡ storeAnswer self (now (out .entry)))
-                × (now (out .exit) ≡ written (storeRefusal self (now (out .entry))) (formOf self) (now (out .entry))) ⌝
-        }
+        ensures { λ r. ⌜ (r ≡ storeAnswer self (now (out .entry)))
+            × (now (out .exit) ≡ written (storeRefusal self (now (out .entry))) (formOf self) (now (out .entry))) ⌝ }
     {
         let refusal = store_refusal(self, out);
         if refusal != 0 {

@@ -42,9 +42,11 @@ loop-less c = omega arith
 loop-again : tie.Need-loop-again Inv-loop μ-loop
 loop-again c =
     let l = c .before .before .loop in
-    let a = c .before .before .before .before .args in
-    (omega arith, copied-more 32 (l .i) (wordsOf (a .words) (drop 6 (a .form .now))) (l .state) (c .read-word .result) (l .inv .1) (omega arith)
-    (c .read-word .ensures ∙ word-read (a .form .now) (a .words) (l .i) (omega arith)))
+    let a = c .before .before .before .before .args in (
+      omega arith,
+      copied-more 32 (l .i) (wordsOf (a .words) (drop 6 (a .form .now))) (l .state) (c .read-word .result) (l .inv .1) (omega arith)
+          (c .read-word .ensures ∙ word-read (a .form .now) (a .words) (l .i) (omega arith)),
+    )
 
 returns : tie.Need-returns Inv-loop μ-loop
 returns c =
