@@ -1,5 +1,5 @@
 -- Laws of whole answers: what the methods have put together is what the definitions say.
-use mathlib.Core.Bool.{Bool, true, false, cond}
+use mathlib.Core.Bool.{true, false, cond}
 use mathlib.Core.List.{List, [], _++_}
 use mathlib.Core.Path.{_≡_, refl, sym, ap, _∙_}
 use Prim.Native.Nat.{ℕ, zero, suc, _+_, _*_, _-_, _/_, _%_, _^_, _<_, _≤_}
@@ -8,7 +8,7 @@ use native.Mathlib.Omega.{arith}
 use borrow.Author.Tests.{leb-true}
 use borrow.Rule.Slice.PartMut.{postOf}
 use lib.Dec.{leb}
-use lib.ListN.{length, getD, take, drop, length-take}
+use lib.ListN.{length, take, drop, length-take}
 use lib.Seq.{take-all, getD-take, ext-getD}
 use Rattle.simd.specs.Basic.{Family, small, large, familyOf, isWidth, blockBytes, blockBits, stateWords, bytesOf, wordsOf, table}
 use Rattle.simd.specs.Constants.{start}
@@ -18,22 +18,19 @@ use Rattle.simd.specs.Hash.{chain, compressions}
 use Rattle.laws.proofs.Bits.{getD-bitsOf, length-bitsOf}
 use Rattle.laws.proofs.Chain.{length-compression}
 use Rattle.laws.proofs.Words.{length-bytesOf}
-use Rattle.hash.specs.Zero.{allZero, clear, padded}
+use Rattle.tail.specs.Zero.{clear, padded}
 use Rattle.hash.specs.Open.{limit, family, used, reached, pending, holding, legal, openRefusal, opened, openAnswer, fullBlocks, advanced, pieceRefusal, feedRefusal, fed, feedAnswer, finalOf, digestOf, takeRefusal, taken, takeAnswer, written}
 use Rattle.hash.specs.Form.{littleEndian, formBytes, formOf, formWidth, formBits, formFamily, hashOf, storeRefusal, storeAnswer, restoreRefusal, restoreAnswer}
-use Rattle.hash.specs.Shift.{Ready, joinedBits}
+use Rattle.tail.specs.Shift.{Ready, joinedBits}
 use Rattle.hash.specs.declared.Hash.{Hash}
-use Rattle.hash.specs.declared.Opened.{Opened}
-use Rattle.hash.specs.declared.Fed.{Fed}
-use Rattle.hash.specs.declared.Taken.{Taken}
-use Rattle.hash.specs.declared.Stored.{Stored}
-use Rattle.hash.proofs.Zeros.{padded-take}
-use Rattle.hash.proofs.Holding.{legal-width, legal-state, legal-tail, length-reached, words-within}
-use Rattle.hash.proofs.Feeding.{Whole, length-message}
-use Rattle.hash.proofs.Storing.{passed, Accepted}
+use Rattle.tail.proofs.Zeros.{padded-take}
+use Rattle.tail.proofs.Sizes.{words-within}
+use Rattle.tail.proofs.Parts.{back}
+use Rattle.hash.proofs.Holding.{legal-width, legal-state, legal-tail, length-reached}
+use Rattle.hash.proofs.Feeding.{length-message}
+use Rattle.hash.proofs.Storing.{passed}
 use Rattle.hash.proofs.Theorems.{digest-room, digest-length}
-use Rattle.hash.proofs.Closing.{state-bytes}
-use Rattle.hash.proofs.Parts.{back}
+use Rattle.hash.proofs.Writing.{state-bytes}
 
 -- Refusals.
 fed-refused : (r : ℕ) (h : Hash) (m : List ℕ) → (r ≡ 0 → ⊥) → record { hash = h; blocks = 0; refusal = r } ≡ fed r h m

@@ -1,34 +1,29 @@
 -- Laws of a hash that has been fed.
-use mathlib.Core.Bool.{Bool, true, false, cond, _||_}
-use mathlib.Core.List.{List, [], _∷_, _++_, append-assoc, append-nil}
+use mathlib.Core.Bool.{Bool, true, false, _||_}
+use mathlib.Core.List.{List, [], _++_, append-assoc, append-nil}
 use mathlib.Core.Logic.{_⊎_, inl, inr, ⊎-elim}
 use mathlib.Core.Path.{_≡_, refl, sym, ap, _∙_, subst}
-use Prim.Native.Nat.{ℕ, zero, suc, _+_, _*_, _-_, _/_, _%_, _^_, _<_, _≤_}
-use native.Mathlib.Nat.{add-zero, zero-add, mul-zero}
+use Prim.Native.Nat.{ℕ, _+_, _*_, _-_, _/_, _%_, _<_, _≤_}
+use native.Mathlib.Nat.{add-zero, mul-zero}
 use native.Mathlib.Omega.{arith}
 use borrow.Author.Tests.{eqb-true, le-leb}
-use lib.Dec.{leb, eqb, lit<}
+use lib.Dec.{eqb, lit<}
 use native.Mathlib.Decide.{decLt}
 use lib.ListN.{length, getD, take, drop, length-take, length-drop, length-append, List·getD-eq-default}
-use lib.Seq.{drop-append-le, drop-drop, take-nil}
+use lib.Seq.{drop-append-le, drop-drop}
 use Rattle.simd.specs.Basic.{Family, small, large, familyOf, isWidth, blockBits, stateWords, table}
 use Rattle.simd.specs.Constants.{start, start224, start256, start384, start512}
 use Rattle.simd.specs.Message.{bitsOf, byteOf, message, messageBlocks, lengthBlock}
 use Rattle.simd.specs.Steps.{compression}
-use Rattle.simd.specs.Hash.{chain, compressions}
+use Rattle.simd.specs.Hash.{chain}
 use Rattle.laws.proofs.Table.{length-table, getD-table}
 use Rattle.laws.proofs.Bits.{Bits, byte-lt, bits-append, bits-drop, bits-bitsOf, bits-take, length-bitsOf}
-use Rattle.laws.proofs.Chain.{length-compression, chain-add, chain-append, blocks-split}
-use Rattle.hash.specs.Zero.{clear, padded}
+use Rattle.laws.proofs.Chain.{chain-add, chain-append, blocks-split}
+use Rattle.tail.proofs.Sizes.{chain-length}
+use Rattle.tail.specs.Zero.{clear, padded}
 use Rattle.hash.specs.Open.{limit, family, used, reached, pending, holding, legal, fullBlocks, advanced, pieceRefusal, feedRefusal, fed, feedAnswer, finalOf}
 use Rattle.hash.specs.declared.Hash.{Hash}
-use Rattle.hash.specs.declared.Fed.{Fed}
 use Rattle.hash.proofs.Holding.{Sized, length-reached, length-pending, bits-pending, held-state, held-tail, held-legal, legal-width, holds}
-
-pub chain-length : (f : Family) (s m : List ℕ) (k : ℕ) → length s ≡ stateWords f → length (chain f s m k) ≡ stateWords f
-unfolding chain
-chain-length f s m zero long = long
-chain-length f s m (suc k) long = length-compression f false (chain f s m k) (Rattle.simd.specs.Message.block f m k)
 
 -- Full blocks and the rest: n bits before, of which n % block size are in the tail, and l more.
 pub rest-bits : (f : Family) (n l : ℕ) → n % blockBits f + l - blockBits f * ((n % blockBits f + l) / blockBits f) ≡ (n + l) % blockBits f

@@ -1,21 +1,21 @@
 -- Laws of a stored form that is written and read part by part.
-use mathlib.Core.Bool.{Bool, true, false, cond}
+use mathlib.Core.Bool.{true, false, cond}
 use mathlib.Core.List.{List, [], _++_}
 use mathlib.Core.Path.{_≡_, refl, sym, ap, _∙_}
-use Prim.Native.Nat.{ℕ, zero, suc, _+_, _*_, _-_, _/_, _%_, _^_, _<_, _≤_}
-use native.Mathlib.Nat.{add-zero, add-assoc}
+use Prim.Native.Nat.{ℕ, _+_, _*_, _-_, _%_, _^_, _<_, _≤_}
+use native.Mathlib.Nat.{add-zero}
 use native.Mathlib.Omega.{arith}
 use borrow.Author.Tests.{le-leb, lt-leb, eq-eqb, ne-eqb}
 use borrow.Rule.Slice.PartMut.{midOf, putMid, mid-len}
-use lib.ListN.{length, getD, take, drop, replicate, length-take, length-append}
+use lib.ListN.{length, getD, take, drop, replicate, length-take}
 use lib.Seq.{take-all, getD-drop}
 use Rattle.simd.specs.Basic.{familyOf, isWidth, blockBytes, blockBits, bytesOf, wordAt, wordsOf, table, sum}
 use Rattle.simd.specs.Message.{byteOf}
 use Rattle.laws.proofs.Sum.{sum-ext}
 use Rattle.laws.proofs.Words.{length-bytesOf, getD-wordsOf}
-use Rattle.hash.specs.Zero.{clear}
-use Rattle.hash.specs.Form.{littleEndian, number, formBytes, formWidth, formBits, formFamily, restoreRefusal}
-use Rattle.hash.proofs.Parts.{put-length, put-front, back}
+use Rattle.tail.specs.Zero.{clear}
+use Rattle.hash.specs.Form.{littleEndian, number, formBytes, formWidth, formBits, restoreRefusal}
+use Rattle.tail.proofs.Parts.{put-length, put-front, back}
 use Rattle.hash.proofs.Storing.{length-littleEndian}
 
 -- Four parts written one behind the other.

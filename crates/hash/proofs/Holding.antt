@@ -1,20 +1,21 @@
 -- Laws of what a hash holds: a legal hash is its width, its bit length, its state and the bits of its tail.
-use mathlib.Core.Bool.{Bool, true, false, _&&_}
-use mathlib.Core.List.{List, [], _∷_, _++_}
-use mathlib.Core.Path.{_≡_, refl, sym, ap, _∙_}
-use Prim.Native.Nat.{ℕ, zero, suc, _+_, _*_, _-_, _/_, _%_, _^_, _<_, _≤_}
+use mathlib.Core.Bool.{true, _&&_}
+use mathlib.Core.List.{List}
+use mathlib.Core.Path.{_≡_, sym, _∙_}
+use Prim.Native.Nat.{ℕ, _%_, _^_, _<_, _≤_}
 use native.Mathlib.Omega.{arith}
 use native.Mathlib.Decide.{decLt}
-use lib.ListN.{length, getD, take, drop, length-take, length-drop, length-append, List·getD-eq-default}
-use lib.Seq.{getD-drop, getD-take, ext-getD}
-use Rattle.simd.specs.Basic.{Family, small, large, familyOf, isWidth, blockBits, stateWords, table}
+use lib.ListN.{length, getD, take, drop, length-take, List·getD-eq-default}
+use lib.Seq.{getD-take, ext-getD}
+use Rattle.simd.specs.Basic.{familyOf, isWidth, blockBits, stateWords, table}
 use Rattle.simd.specs.Message.{bitsOf, byteOf}
-use Rattle.laws.proofs.Table.{length-table, getD-table, table-of}
-use Rattle.laws.proofs.Bits.{Bits, byte-ext, byte-bitsOf, bitsOf-bytes, bits-bitsOf, bits-take, length-bitsOf, getD-take-past}
-use Rattle.hash.specs.Zero.{allZero, clear, padded}
+use Rattle.laws.proofs.Table.{length-table, table-of}
+use Rattle.laws.proofs.Bits.{Bits, bitsOf-bytes, bits-bitsOf, bits-take, length-bitsOf}
+use Rattle.tail.proofs.Sizes.{words-within, used-within, byte-clear}
+use Rattle.tail.specs.Zero.{allZero, clear}
 use Rattle.hash.specs.Open.{family, used, reached, pending, holding, legal}
 use Rattle.hash.specs.declared.Hash.{Hash}
-use Rattle.hash.proofs.Zeros.{and-left, and-right, clear-at, clear-of, take-padded, padded-past, padded-take}
+use Rattle.tail.proofs.Zeros.{and-left, and-right, clear-of, take-padded, padded-past, padded-take}
 
 -- What every value of the struct keeps to: the lengths of its arrays and the ranges of its bytes, and further of its other numbers.
 pub record Sized (h : Hash) : Type 0 where
@@ -28,14 +29,6 @@ pub record Value (h : Hash) : Type 0 where
   pub bits-fit : h .bits < 2 ^ 32
   pub word-fits : (i : ℕ) → getD (h .state) i 0 < 2 ^ 32
 
-pub words-within : (f : Family) → stateWords f ≤ 32
-words-within small = omega arith
-words-within large = omega arith
-
-pub used-within : (f : Family) (n : ℕ) → n % blockBits f < 1024
-used-within small n = omega arith
-used-within large n = omega arith
-
 pub length-reached : (h : Hash) → length (h .state) ≡ 32 → length (reached h) ≡ stateWords (family h)
 unfolding reached
 length-reached h long = omega (arith, length-take (stateWords (family h)) (h .state), words-within (family h))
@@ -48,17 +41,6 @@ length-pending h long =
 pub bits-pending : (h : Hash) → Bits (pending h)
 unfolding pending
 bits-pending h = bits-take (used h) (bitsOf (h .tail)) (bits-bitsOf (h .tail))
-
--- A byte string that is clear from bit n on has the bytes of its first n bits.
-pub byte-clear : (n : ℕ) (bytes : List ℕ) (j : ℕ) → clear n bytes ≡ true → getD bytes j 0 < 256 → byteOf (take n (bitsOf bytes)) j ≡ getD bytes j 0
-byte-clear n bytes j zeros fits =
-    byte-ext (take n (bitsOf bytes)) (bitsOf bytes) j j (λ t _. same (8 * j + t)) ∙ byte-bitsOf bytes j fits
-  where
-    same : (i : ℕ) → getD (take n (bitsOf bytes)) i 0 ≡ getD (bitsOf bytes) i 0
-    same i = elim (decLt i n) [
-      | yes before ↦ getD-take n (bitsOf bytes) i 0 before
-      | no past ↦ getD-take-past n (bitsOf bytes) i (omega arith) ∙ sym (clear-at n bytes zeros i (omega arith))
-    ]
 
 module _ (width n : ℕ) (state tail : List ℕ)
     (words : length state ≡ stateWords (familyOf width))

@@ -1,16 +1,16 @@
 -- Laws of refusals: one for each way out of a check.
-use mathlib.Core.Bool.{Bool, true, false, cond, _&&_}
+use mathlib.Core.Bool.{true, false, cond}
 use mathlib.Core.List.{List}
-use mathlib.Core.Path.{_≡_, refl, sym, ap, _∙_}
-use Prim.Native.Nat.{ℕ, zero, suc, _+_, _*_, _-_, _/_, _%_, _<_, _≤_}
+use mathlib.Core.Path.{_≡_}
+use Prim.Native.Nat.{ℕ, _+_, _*_, _-_, _/_, _<_, _≤_}
 use native.Mathlib.Omega.{arith}
-use borrow.Author.Tests.{le-leb, lt-leb, eq-eqb, ne-eqb}
-use lib.Dec.{leb, eqb}
+use borrow.Author.Tests.{le-leb, lt-leb}
+use lib.Dec.{leb}
 use lib.ListN.{length, take, drop}
-use Rattle.simd.specs.Basic.{Family, small, large, isWidth, rows, blockBytes, blockBits, stateWords}
-use Rattle.hash.specs.Zero.{allZero, clear}
+use Rattle.simd.specs.Basic.{Family, isWidth, blockBytes, stateWords}
+use Rattle.tail.specs.Zero.{allZero, clear}
 use Rattle.hash.specs.Open.{limit, family, used, legal, pieceRefusal, feedRefusal, takeRefusal}
-use Rattle.hash.specs.Form.{formBytes, formWidth, formBits, formFamily, storeRefusal, restoreRefusal}
+use Rattle.hash.specs.Form.{formBytes, storeRefusal}
 use Rattle.hash.specs.declared.Hash.{Hash}
 
 -- Words of a state of 16 R bytes.

@@ -1,11 +1,10 @@
 -- The starting state of each width, in 32 words.
-use mathlib.Core.List.{List}
-use mathlib.Core.Path.{_≡_, refl, sym, ap, _∙_}
+use mathlib.Core.Path.{_≡_, refl, sym}
 use Prim.Native.Nat.{ℕ}
 use borrow.Author.Tests.{eq-eqb, ne-eqb}
 use Rattle.simd.specs.Constants.{start, start224, start256, start384, start512}
-use Rattle.hash.specs.Zero.{padded}
-use Rattle.hash.proofs.Absorbing.{padded-whole}
+use Rattle.tail.specs.Zero.{padded}
+use Rattle.tail.proofs.Absorbing.{padded-whole}
 
 module _ (width : ℕ) where
   pub start-224 : width ≡ 224 → start224 ≡ start width

@@ -1,27 +1,27 @@
 -- Laws of the stored form.
-use mathlib.Core.Bool.{Bool, true, false, cond, _&&_}
-use mathlib.Core.List.{List, [], _∷_, _++_, append-assoc}
+use mathlib.Core.Bool.{Bool, true, false, cond}
+use mathlib.Core.List.{List, _++_, append-assoc}
 use mathlib.Core.Path.{_≡_, refl, sym, ap, _∙_}
-use Prim.Native.Nat.{ℕ, zero, suc, _+_, _*_, _-_, _/_, _%_, _^_, _<_, _≤_}
+use Prim.Native.Nat.{ℕ, suc, _+_, _*_, _-_, _/_, _%_, _^_, _<_, _≤_}
 use native.Mathlib.Nat.{mod-eq-of-lt}
 use native.Mathlib.Omega.{arith}
 use native.Mathlib.Decide.{decLt}
-use borrow.Author.Tests.{le-leb, leb-true, eq-eqb, eqb-true}
+use borrow.Author.Tests.{le-leb, eq-eqb, eqb-true}
 use lib.Dec.{leb, eqb, lit<}
-use lib.ListN.{length, getD, take, drop, length-take, length-drop, length-append, take-append-drop, List·getD-append, List·getD-eq-default}
-use lib.Seq.{getD-drop, getD-take, drop-at, drop-drop, take-add, ext-getD}
-use Rattle.simd.specs.Basic.{Family, small, large, familyOf, isWidth, blockBytes, blockBits, stateWords, wordsOf, bytesOf, table, sum}
-use Rattle.simd.specs.Message.{bitsOf}
-use Rattle.laws.proofs.Table.{length-table, getD-table, table-of, table-ext}
+use lib.ListN.{length, getD, take, drop, length-take, length-drop, length-append, take-append-drop, List·getD-append}
+use lib.Seq.{getD-drop, getD-take, drop-at, take-add}
+use Rattle.simd.specs.Basic.{familyOf, isWidth, blockBytes, blockBits, stateWords, wordsOf, bytesOf}
+use Rattle.laws.proofs.Table.{length-table, getD-table, table-of}
 use Rattle.laws.proofs.Sum.{sum-ext}
-use Rattle.laws.proofs.Bits.{getD-bitsOf, byte-past, getD-take-past}
+use Rattle.laws.proofs.Bits.{getD-bitsOf, getD-take-past}
 use Rattle.laws.proofs.Words.{digits-sum, sum-digits, length-bytesOf, length-wordsOf, words-bytes, bytes-words, sum-lt, wordsOf-fit}
-use Rattle.hash.specs.Zero.{allZero, clear, padded}
-use Rattle.hash.specs.Open.{family, used, reached, legal, opened}
-use Rattle.hash.specs.Form.{littleEndian, number, formBytes, formOf, formWidth, formBits, formFamily, hashOf, restoreRefusal, restoreAnswer}
+use Rattle.tail.specs.Zero.{allZero, clear, padded}
+use Rattle.hash.specs.Open.{family, used, reached, legal}
+use Rattle.hash.specs.Form.{littleEndian, number, formBytes, formOf, formWidth, formBits, formFamily, hashOf, restoreRefusal}
 use Rattle.hash.specs.declared.Hash.{Hash}
-use Rattle.hash.proofs.Zeros.{and-left, all-zero, clear-at, clear-of, take-padded, padded-past, padded-take, getD-padded, length-padded}
-use Rattle.hash.proofs.Holding.{Sized, Value, length-reached, words-within, legal-width, legal-state, legal-tail, byte-clear}
+use Rattle.tail.proofs.Zeros.{clear-at, clear-of, take-padded, padded-past, padded-take, getD-padded, length-padded}
+use Rattle.tail.proofs.Sizes.{words-within, bytes-within, bytes-past, block-within}
+use Rattle.hash.proofs.Holding.{Value, length-reached, legal-width, legal-state, legal-tail}
 
 -- Numbers written and read.
 pub number-written : (n x : ℕ) (rest : List ℕ) → x < 256 ^ n → number n (littleEndian n x ++ rest) ≡ x
@@ -51,15 +51,6 @@ clear-same n a b same zeros =
     let bits = here ∙ ap (λ (x : ℕ). x / 2 ^ (7 - i % 8) % 2) (sym (same (i / 8))) ∙ sym there in
     rw place at bits ∙ clear-at n a zeros i past)
 
--- Bytes past the block of a byte string that is clear from within that block on.
-pub bytes-past : (n z : ℕ) (bytes : List ℕ) → ((i : ℕ) → getD bytes i 0 < 256) → clear n bytes ≡ true → n ≤ 8 * z → allZero (drop z bytes) ≡ true
-bytes-past n z bytes fits zeros within =
-    all-zero (drop z bytes)
-    (λ i _.
-    getD-drop z bytes i 0
-    ∙ sym (byte-clear n bytes (z + i) zeros (fits (z + i)))
-    ∙ byte-past (take n (bitsOf bytes)) (z + i) (omega (arith, length-take n (bitsOf bytes))))
-
 pub reached-fits : (h : Hash) → ((i : ℕ) → getD (h .state) i 0 < 2 ^ 32) → (i : ℕ) → getD (reached h) i 0 < 2 ^ 32
 unfolding reached
 reached-fits h fits i = elim (decLt i (stateWords (family h))) [
@@ -76,14 +67,6 @@ rebuilt width bits form =
       state = padded 32 (wordsOf (stateWords (familyOf width)) (drop 6 form));
       tail = padded 128 (drop (6 + blockBytes (familyOf width)) form);
     }
-
-block-within : (f : Family) (n : ℕ) → n % blockBits f ≤ 8 * blockBytes f
-block-within small n = omega arith
-block-within large n = omega arith
-
-pub bytes-within : (f : Family) → blockBytes f ≤ 128
-bytes-within small = omega arith
-bytes-within large = omega arith
 
 pub length-littleEndian : (n x : ℕ) → length (littleEndian n x) ≡ n
 unfolding littleEndian

@@ -1,12 +1,12 @@
 -- What holds of the open hash over all messages and all cuttings, of the definitions that the methods' contracts cite.
-use mathlib.Core.Bool.{Bool, true, false, cond}
-use mathlib.Core.List.{List, [], _∷_, _++_, append-nil}
+use mathlib.Core.Bool.{true, cond}
+use mathlib.Core.List.{List, [], _∷_, _++_}
 use mathlib.Core.Path.{_≡_, refl, sym, ap, _∙_}
-use Prim.Native.Nat.{ℕ, zero, suc, _+_, _*_, _-_, _/_, _%_, _^_, _<_, _≤_}
-use native.Mathlib.Nat.{add-zero, zero-add}
+use Prim.Native.Nat.{ℕ, zero, suc, _+_, _*_, _/_, _%_, _<_, _≤_}
+use native.Mathlib.Nat.{zero-add}
 use native.Mathlib.Omega.{arith}
-use borrow.Author.Tests.{le-leb, eq-eqb, ne-eqb}
-use lib.Dec.{leb, eqb, eqb·suc-zero, lit≤}
+use borrow.Author.Tests.{le-leb}
+use lib.Dec.{eqb, eqb·suc-zero, lit≤}
 use lib.ListN.{length, getD, take, drop, length-take, length-append, List·getD-eq-default}
 use lib.Seq.{take-all, getD-take, ext-getD}
 use native.Mathlib.Decide.{decLt}
@@ -18,17 +18,15 @@ use Rattle.simd.specs.Hash.{chain, final, finalState, digest, compressions}
 use Rattle.laws.proofs.Table.{length-table}
 use Rattle.laws.proofs.Bits.{Bits, bits-append, bitsOf-bytes, length-bitsOf}
 use Rattle.laws.proofs.Chain.{length-compression}
-use Rattle.hash.specs.Zero.{allZero, clear}
-use Rattle.hash.specs.Open.{limit, family, used, reached, pending, holding, legal, openRefusal, opened, openAnswer, fullBlocks, advanced, feedRefusal, fed, feedAnswer, finalOf, digestOf, takeRefusal, taken, takeAnswer, written}
+use Rattle.tail.specs.Zero.{allZero, clear}
+use Rattle.hash.specs.Open.{limit, family, used, reached, pending, holding, legal, openRefusal, opened, openAnswer, fullBlocks, advanced, feedAnswer, finalOf, digestOf, takeRefusal, taken, takeAnswer, written}
 use Rattle.hash.specs.declared.Hash.{Hash}
-use Rattle.hash.specs.declared.Opened.{Opened}
 use Rattle.hash.specs.declared.Fed.{Fed}
-use Rattle.hash.specs.declared.Taken.{Taken}
 use Rattle.hash.specs.Form.{formOf, hashOf, restoreRefusal, restoreAnswer}
+use Rattle.tail.proofs.Zeros.{clear-of}
+use Rattle.hash.proofs.Holding.{Sized, Value, held-state, held-tail, held-legal, legal-width}
+use Rattle.hash.proofs.Feeding.{Whole, held-sized, advanced-sized, advanced-bits, advanced-legal, advanced-append, advanced-none, blocks-append, none-full, fed-whole, length-message, bits-message, final-advanced, message-blocks, at-widths, start-length}
 use Rattle.hash.proofs.Storing.{form-hash, form-accepted, form-facts, read-legal, read-value, read-form}
-use Rattle.hash.proofs.Zeros.{clear-of}
-use Rattle.hash.proofs.Holding.{Sized, Value, length-pending, bits-pending, held-state, held-tail, held-legal, legal-width}
-use Rattle.hash.proofs.Feeding.{Whole, held-sized, advanced-sized, advanced-bits, advanced-legal, advanced-append, advanced-none, blocks-append, none-full, fed-whole, length-message, bits-message, final-advanced, message-blocks, at-widths, start-length, joined-length}
 
 -- A cutting: pieces, the message that they make, and the answer to feeding them one after the other. Its blocks and its refusal are sums over
 -- the pieces, so that a refusal of 0 says that no piece was refused.

@@ -1,11 +1,11 @@
 -- The stored form: width (2 bytes), bit length (4 bytes), state, and one block with the tail and zeros. Numbers are little endian.
 use mathlib.Core.Bool.{cond}
 use mathlib.Core.List.{List, _++_}
-use Prim.Native.Nat.{ℕ, zero, suc, _+_, _*_, _/_, _%_, _^_}
+use Prim.Native.Nat.{ℕ, _+_, _*_, _/_, _%_, _^_}
 use lib.Dec.{leb, eqb}
 use lib.ListN.{length, getD, take, drop}
 use Rattle.simd.specs.Basic.{Family, familyOf, isWidth, blockBytes, blockBits, stateWords, wordsOf, bytesOf, table, sum}
-use Rattle.hash.specs.Zero.{clear, padded}
+use Rattle.tail.specs.Zero.{clear, padded}
 use Rattle.hash.specs.Open.{family, legal, reached, opened}
 use Rattle.hash.specs.declared.Hash.{Hash}
 use Rattle.hash.specs.declared.Opened.{Opened}

@@ -1,5 +1,3 @@
 -- What the methods of an open hash answer, over the definition of SIMD v1.1 in the crate simd.
-pub mod Zero
 pub mod Open
 pub mod Form
-pub mod Shift

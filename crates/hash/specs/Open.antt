@@ -10,7 +10,7 @@ use Rattle.simd.specs.Constants.{start}
 use Rattle.simd.specs.Message.{bitsOf, byteOf, message, messageBlocks, lengthBlock}
 use Rattle.simd.specs.Steps.{compression}
 use Rattle.simd.specs.Hash.{chain, compressions}
-use Rattle.hash.specs.Zero.{allZero, clear, padded}
+use Rattle.tail.specs.Zero.{allZero, clear, padded}
 use Rattle.hash.specs.declared.Hash.{Hash}
 use Rattle.hash.specs.declared.Opened.{Opened}
 use Rattle.hash.specs.declared.Fed.{Fed}

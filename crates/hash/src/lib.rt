@@ -2,21 +2,16 @@
 // answer. `refusal` is 0 where nothing is refused, and otherwise the number of what was; then the hash comes back as it was handed over,
 // no buffer is written to, and the rest of the answer is 0.
 
-ghost use mathlib.Core.Bool.{Bool, true, false};
 ghost use mathlib.Core.Path.{_≡_};
 ghost use mathlib.Core.List.{[], _++_};
-ghost use Prim.Native.Nat.{ℕ, suc, min, _+_, _*_, _-_, _/_, _%_, _^_, _≤_, _<_};
-ghost use lib.ListN.{length, getD, take, drop};
-ghost use Rattle.simd.specs.Basic.{familyOf, isWidth, blockBytes, blockBits, stateWords, bytesOf, wordsOf, table};
+ghost use Prim.Native.Nat.{_+_, _*_, _≤_};
+ghost use lib.ListN.{length, take, drop};
+ghost use Rattle.simd.specs.Basic.{isWidth, bytesOf, wordsOf, table};
 ghost use Rattle.simd.specs.Constants.{start};
-ghost use Rattle.simd.specs.Message.{bitsOf, byteOf, messageBlocks, lengthBlock};
-ghost use Rattle.simd.specs.Steps.{compression};
-ghost use Rattle.simd.specs.Hash.{chain, compressions};
-ghost use Rattle.compression.specs.Absorbed.{absorbed};
-ghost use Rattle.hash.specs.Zero.{allZero, clear, padded};
+ghost use Rattle.simd.specs.Message.{byteOf};
+ghost use Rattle.tail.specs.Zero.{padded};
 ghost use Rattle.hash.specs.Open.{holding, legal, openAnswer, pieceRefusal, feedRefusal, feedAnswer, digestOf, takeRefusal, takeAnswer, written};
-ghost use Rattle.hash.specs.Form.{littleEndian, number, formWidth, formBits, formOf, hashOf, storeRefusal, storeAnswer, restoreRefusal, restoreAnswer};
-ghost use Rattle.hash.specs.Shift.{carryAt, shifted, poured, Ready, Crossing, joinedBits};
+ghost use Rattle.hash.specs.Form.{littleEndian, number, formWidth, formOf, storeRefusal, storeAnswer, restoreRefusal, restoreAnswer};
 
 // The longest message, in bits.
 const LIMIT: usize = 4294967295;
@@ -52,12 +47,6 @@ pub struct Stored {
     pub refusal: u8,
 }
 
-fn wide(x: u8) -> u16
-    ensures { λ r. ⌜ (r ≡ x) × (r < 256) ⌝ }
-{
-    x as u16
-}
-
 // Whether a width is one of the four.
 fn is_width(width: u16) -> bool
     ensures { λ r. ⌜ r ≡ isWidth width ⌝ }
@@ -74,395 +63,6 @@ fn is_width(width: u16) -> bool
     width == 512
 }
 
-fn block_bytes(width: u16) -> usize
-    ensures { λ r. ⌜ r ≡ blockBytes (familyOf width) ⌝ }
-{
-    if width <= 256 { 64 } else { 128 }
-}
-
-// Whether all words from a place on are 0.
-fn words_zero(words: &[u32], from: usize) -> bool
-    ensures { λ r. ⌜ r ≡ allZero (drop from (now (words .entry))) ⌝ }
-{
-    let mut i = from;
-    while i < words.len() {
-        if words[i] != 0 {
-            return false;
-        }
-        i += 1;
-    }
-    true
-}
-
-// Whether all bytes from a place on are 0.
-fn bytes_zero(bytes: &[u8], from: usize) -> bool
-    ensures { λ r. ⌜ r ≡ allZero (drop from (now (bytes .entry))) ⌝ }
-{
-    let mut i = from;
-    while i < bytes.len() {
-        if bytes[i] != 0 {
-            return false;
-        }
-        i += 1;
-    }
-    true
-}
-
-// 2 to the number of bits that are free in a byte that holds `held`.
-fn scale_of(held: usize) -> u16
-    requires { ⌜ held < 8 ⌝ }
-    ensures { λ r. ⌜ (r ≡ 2 ^ (8 - held)) × (r ≤ 256) × (0 < r) ⌝ }
-{
-    256u16 >> held
-}
-
-// Whether all bits from a place on are 0.
-fn bits_zero(bytes: &[u8], from: usize) -> bool
-    ensures { λ r. ⌜ r ≡ clear from (now (bytes .entry)) ⌝ }
-{
-    let at = from / 8;
-    if bytes.len() <= at {
-        return true;
-    }
-    if wide(bytes[at]) % scale_of(from % 8) != 0 {
-        return false;
-    }
-    bytes_zero(bytes, at + 1)
-}
-
-// Writes the shifted source, as much as the buffer takes, and gives the carry after it.
-fn shift(scale: u16, carry: u8, src: &[u8], dst: &mut [u8]) -> u8
-    requires { ⌜ (scale ≤ 256) × (length (now dst) ≤ length (now src)) ⌝ }
-    ensures { λ r. ⌜ (now (dst .exit) ≡ table (length (now (dst .entry))) (shifted scale carry (now (src .entry))))
-        × (r ≡ carryAt scale carry (now (src .entry)) (length (now (dst .entry)))) ⌝ }
-{
-    let mut held = wide(carry);
-    let mut i = 0;
-    while i < dst.len() {
-        let scaled = wide(src[i]) * scale;
-        dst[i] = ((held + scaled / 256) % 256) as u8;
-        held = scaled % 256;
-        i += 1;
-    }
-    (held % 256) as u8
-}
-
-// Writes the shifted source into a buffer from place `at` on, and the carry behind it where the buffer goes on.
-fn pour(buffer: &mut [u8], at: usize, scale: u16, carry: u8, src: &[u8])
-    requires { ⌜ (scale ≤ 256) × (at + length (now src) ≤ length (now buffer)) ⌝ }
-    ensures { λ _. ⌜ now (buffer .exit)
-        ≡ table (length (now (buffer .entry))) (poured (now (buffer .entry)) at scale carry (now (src .entry))) ⌝ }
-{
-    let whole = buffer.len();
-    let end = at + src.len();
-    let last = shift(scale, carry, src, &mut buffer[at..end]);
-    if end < whole {
-        buffer[end] = last;
-    }
-}
-
-// The small family's state in the first 16 of 32 words, and back.
-fn narrow(state: [u32; 32]) -> [u32; 16]
-    ensures { λ r. ⌜ r ≡ take 16 state ⌝ }
-{
-    let mut words = [0u32; 16];
-    let mut i = 0;
-    while i < 16 {
-        words[i] = state[i];
-        i += 1;
-    }
-    words
-}
-
-fn widen(state: [u32; 16]) -> [u32; 32]
-    ensures { λ r. ⌜ r ≡ padded 32 state ⌝ }
-{
-    let mut words = [0u32; 32];
-    let mut i = 0;
-    while i < 16 {
-        words[i] = state[i];
-        i += 1;
-    }
-    words
-}
-
-// Compresses all whole blocks of a byte string.
-fn absorb(width: u16, state: &mut [u32; 32], bytes: &[u8])
-    requires { ⌜ length (now state) ≡ 32 ⌝ }
-    ensures { λ _. ⌜ now (state .exit)
-        ≡ padded 32 (absorbed (familyOf width) (take (stateWords (familyOf width)) (now (state .entry))) (now (bytes .entry))
-        (length (now (bytes .entry)) / blockBytes (familyOf width))) ⌝ }
-{
-    if width <= 256 {
-        let mut small = narrow(*state);
-        compression::absorb_small(&mut small, bytes);
-        let wide = widen(small);
-        *state = wide;
-    } else {
-        compression::absorb_large(state, bytes);
-    }
-}
-
-// Compresses the length block.
-fn finish(width: u16, state: &mut [u32; 32], bits: u64)
-    requires { ⌜ length (now state) ≡ 32 ⌝ }
-    ensures { λ _. ⌜ now (state .exit)
-        ≡ padded 32 (compression (familyOf width) true (take (stateWords (familyOf width)) (now (state .entry))) (lengthBlock (familyOf width) bits)) ⌝ }
-{
-    if width <= 256 {
-        let mut small = narrow(*state);
-        compression::finish_small(&mut small, bits);
-        let wide = widen(small);
-        *state = wide;
-    } else {
-        compression::finish_large(state, bits);
-    }
-}
-
-// Room for the shifted bytes of several blocks.
-fn room() -> [u8; 1024] {
-    [0u8; 1024]
-}
-
-// Compresses the blocks of a shifted part that the buffer has room for, and gives the carry after it.
-fn absorb_part(
-    width: u16,
-    state: &mut [u32; 32],
-    scale: u16,
-    carry: u8,
-    part: &[u8],
-    buffer: &mut [u8],
-) -> u8
-    requires { ⌜ (length (now state) ≡ 32) × (scale ≤ 256) × (length (now part) ≤ length (now buffer)) ⌝ }
-    ensures { λ r. ⌜ (now (state .exit)
-        ≡ padded 32 (absorbed (familyOf width) (take (stateWords (familyOf width)) (now (state .entry)))
-        (table (length (now (part .entry))) (shifted scale carry (now (part .entry))))
-        (length (now (part .entry)) / blockBytes (familyOf width))))
-        × (r ≡ carryAt scale carry (now (part .entry)) (length (now (part .entry)))) ⌝ }
-{
-    let n = part.len();
-    let last = shift(scale, carry, part, &mut buffer[..n]);
-    absorb(width, state, &buffer[..n]);
-    last
-}
-
-// The end of the next part of a source, which is at most 1,024 bytes long.
-fn part_end(at: usize, length: usize) -> usize
-    requires { ⌜ at ≤ length ⌝ }
-    ensures { λ r. ⌜ r ≡ at + min (length - at) 1024 ⌝ }
-{
-    if length - at <= 1024 {
-        length
-    } else {
-        at + 1024
-    }
-}
-
-// Compresses a shifted source of whole blocks, a part at a time, and gives the carry after it.
-fn absorb_parts(width: u16, state: &mut [u32; 32], scale: u16, carry: u8, src: &[u8]) -> u8
-    requires { ⌜ (now state ≡ padded 32 (take (stateWords (familyOf width)) (now state))) × (scale ≤ 256)
-        × (length (now src) % blockBytes (familyOf width) ≡ 0) ⌝ }
-    ensures { λ r. ⌜ (now (state .exit)
-        ≡ padded 32 (absorbed (familyOf width) (take (stateWords (familyOf width)) (now (state .entry)))
-        (table (length (now (src .entry))) (shifted scale carry (now (src .entry))))
-        (length (now (src .entry)) / blockBytes (familyOf width))))
-        × (r ≡ carryAt scale carry (now (src .entry)) (length (now (src .entry)))) ⌝ }
-{
-    let mut buffer = room();
-    let mut held = carry;
-    let mut at = 0;
-    while at < src.len() {
-        let end = part_end(at, src.len());
-        held = absorb_part(width, state, scale, held, &src[at..end], &mut buffer);
-        at = end;
-    }
-    held
-}
-
-// The same; where nothing is to be shifted, straight from the source.
-fn absorb_source(width: u16, state: &mut [u32; 32], scale: u16, carry: u8, src: &[u8]) -> u8
-    requires { ⌜ (now state ≡ padded 32 (take (stateWords (familyOf width)) (now state))) × (scale ≤ 256)
-        × (length (now src) % blockBytes (familyOf width) ≡ 0) ⌝ }
-    ensures { λ r. ⌜ (now (state .exit)
-        ≡ padded 32 (absorbed (familyOf width) (take (stateWords (familyOf width)) (now (state .entry)))
-        (table (length (now (src .entry))) (shifted scale carry (now (src .entry))))
-        (length (now (src .entry)) / blockBytes (familyOf width))))
-        × (r ≡ carryAt scale carry (now (src .entry)) (length (now (src .entry)))) ⌝ }
-{
-    if scale == 256 {
-        if carry == 0 {
-            absorb(width, state, src);
-            return 0;
-        }
-    }
-    absorb_parts(width, state, scale, carry, src)
-}
-
-fn blank(bytes: &mut [u8])
-    ensures { λ _. ⌜ now (bytes .exit) ≡ table (length (now (bytes .entry))) (λ _. 0) ⌝ }
-{
-    let mut i = 0;
-    while i < bytes.len() {
-        bytes[i] = 0;
-        i += 1;
-    }
-}
-
-// Compresses the first bytes of a shifted source, which are whole blocks, and makes the others the tail.
-fn flow(
-    width: u16,
-    state: &mut [u32; 32],
-    tail: &mut [u8],
-    scale: u16,
-    carry: u8,
-    src: &[u8],
-    whole: usize,
-)
-    requires { ⌜ (now state ≡ padded 32 (take (stateWords (familyOf width)) (now state))) × (scale ≤ 256) × (whole % blockBytes (familyOf width) ≡ 0) × (whole ≤ length (now src))
-        × (length (now src) - whole ≤ length (now tail)) ⌝ }
-    ensures { λ _. ⌜ (now (state .exit)
-        ≡ padded 32 (absorbed (familyOf width) (take (stateWords (familyOf width)) (now (state .entry)))
-        (table whole (shifted scale carry (now (src .entry)))) (whole / blockBytes (familyOf width))))
-        × (now (tail .exit)
-        ≡ table (length (now (tail .entry)))
-        (poured (table (length (now (tail .entry))) (λ _. 0)) 0 scale (carryAt scale carry (now (src .entry)) whole) (drop whole (now (src .entry))))) ⌝ }
-{
-    let end = src.len();
-    let last = absorb_source(width, state, scale, carry, &src[0..whole]);
-    blank(tail);
-    pour(tail, 0, scale, last, &src[whole..end]);
-}
-
-// Completes the tail's block with a shifted part, and compresses it.
-fn complete(
-    width: u16,
-    state: &mut [u32; 32],
-    tail: &mut [u8],
-    at: usize,
-    scale: u16,
-    carry: u8,
-    part: &[u8],
-) -> u8
-    requires { ⌜ (length (now state) ≡ 32) × (scale ≤ 256) × (at + length (now part) ≡ blockBytes (familyOf width))
-        × (at + length (now part) ≤ length (now tail)) ⌝ }
-    ensures { λ r. ⌜ (now (state .exit)
-        ≡ padded 32 (compression (familyOf width) false (take (stateWords (familyOf width)) (now (state .entry)))
-        (take at (now (tail .entry)) ++ table (length (now (part .entry))) (shifted scale carry (now (part .entry))))))
-        × (r ≡ carryAt scale carry (now (part .entry)) (length (now (part .entry)))) ⌝ }
-{
-    let end = at + part.len();
-    let last = shift(scale, carry, part, &mut tail[at..end]);
-    absorb(width, state, &tail[0..end]);
-    last
-}
-
-// The full blocks of a number of bits, and the bytes of a number of blocks.
-fn full_blocks(width: u16, bits: usize) -> usize
-    ensures { λ r. ⌜ r ≡ bits / blockBits (familyOf width) ⌝ }
-{
-    if width <= 256 {
-        bits / 512
-    } else {
-        bits / 1024
-    }
-}
-
-fn bytes_of_blocks(width: u16, blocks: usize) -> usize
-    requires { ⌜ blocks < 2 ^ 32 ⌝ }
-    ensures { λ r. ⌜ r ≡ blockBytes (familyOf width) * blocks ⌝ }
-{
-    if width <= 256 {
-        64 * blocks
-    } else {
-        128 * blocks
-    }
-}
-
-// Completes the tail's block of `size` bytes, compresses it and the full blocks behind it, `whole` bytes in all, and makes the rest the tail.
-fn cross(
-    width: u16,
-    size: usize,
-    state: &mut [u32; 32],
-    tail: &mut [u8],
-    at: usize,
-    scale: u16,
-    carry: u8,
-    src: &[u8],
-    whole: usize,
-)
-    requires { ⌜ Crossing width size (now state) (now tail) at scale (now src) whole ⌝ }
-    ensures { λ _. ⌜ (now (state .exit)
-        ≡ padded 32 (absorbed (familyOf width)
-        (compression (familyOf width) false (take (stateWords (familyOf width)) (now (state .entry)))
-        (take at (now (tail .entry)) ++ table (size - at) (shifted scale carry (now (src .entry)))))
-        (table (whole - size)
-        (shifted scale (carryAt scale carry (now (src .entry)) (size - at)) (drop (size - at) (now (src .entry)))))
-        ((whole - size) / blockBytes (familyOf width))))
-        × (now (tail .exit)
-        ≡ table 128 (poured (table 128 (λ _. 0)) 0 scale
-        (carryAt scale carry (now (src .entry)) (whole - at)) (drop (whole - at) (now (src .entry))))) ⌝ }
-{
-    let end = src.len();
-    let room = size - at;
-    let last = complete(width, state, tail, at, scale, carry, &src[0..room]);
-    flow(
-        width,
-        state,
-        tail,
-        scale,
-        last,
-        &src[room..end],
-        whole - size,
-    );
-}
-
-// Puts the bits of a piece behind those of the tail: compresses each block that becomes full, and gives their number.
-fn advance(
-    width: u16,
-    used: usize,
-    state: &mut [u32; 32],
-    tail: &mut [u8],
-    src: &[u8],
-    count: usize,
-) -> usize
-    requires { ⌜ Ready width used (now state) (now tail) (now src) count ⌝ }
-    ensures { λ r. ⌜ (now (state .exit)
-        ≡ padded 32 (chain (familyOf width) (take (stateWords (familyOf width)) (now (state .entry)))
-        (joinedBits used (now (tail .entry)) (now (src .entry)) count) ((used + count) / blockBits (familyOf width))))
-        × (now (tail .exit)
-        ≡ table 128 (byteOf (drop (blockBits (familyOf width) * ((used + count) / blockBits (familyOf width)))
-        (joinedBits used (now (tail .entry)) (now (src .entry)) count))))
-        × (r ≡ (used + count) / blockBits (familyOf width)) ⌝ }
-{
-    let blocks = full_blocks(width, used + count);
-    let at = used / 8;
-    let scale = scale_of(used % 8);
-    let carry = tail[at];
-    if blocks == 0 {
-        pour(tail, at, scale, carry, src);
-        return 0;
-    }
-    let whole = bytes_of_blocks(width, blocks);
-    if used == 0 {
-        flow(width, state, tail, scale, carry, src, whole);
-        return blocks;
-    }
-    let size = block_bytes(width);
-    cross(width, size, state, tail, at, scale, carry, src, whole);
-    blocks
-}
-
-// The bits in the tail of a hash of so many bits.
-fn used_bits(width: u16, bits: u32) -> usize
-    ensures { λ r. ⌜ r ≡ bits % blockBits (familyOf width) ⌝ }
-{
-    if width <= 256 {
-        (bits % 512) as usize
-    } else {
-        (bits % 1024) as usize
-    }
-}
-
 // Whether a hash is one of the four widths with no bit set past the family's state, block or tail.
 fn is_legal(hash: Hash) -> bool
     ensures { λ r. ⌜ r ≡ legal hash ⌝ }
@@ -474,10 +74,10 @@ fn is_legal(hash: Hash) -> bool
     if !is_width(width) {
         return false;
     }
-    if !words_zero(&state, block_bytes(width) / 4) {
+    if !tail::words_zero(&state, tail::block_bytes(width) / 4) {
         return false;
     }
-    bits_zero(&tail, used_bits(width, bits))
+    tail::bits_zero(&tail, tail::used_bits(width, bits))
 }
 
 // The number of a piece's refusal after so many bits, or 0.
@@ -488,7 +88,7 @@ pub fn piece_refusal(bits: u32, piece: &[u8], count: usize) -> u8
     if piece.len() < bytes {
         return 2;
     }
-    if !bits_zero(&piece[0..bytes], count) {
+    if !tail::bits_zero(&piece[0..bytes], count) {
         return 3;
     }
     if LIMIT - (bits as usize) < count {
@@ -528,7 +128,7 @@ fn store_refusal(hash: Hash, out: &[u8]) -> u8
 {
     let width = hash.width;
     if is_legal(hash) {
-        if 6 + 2 * block_bytes(width) <= out.len() {
+        if 6 + 2 * tail::block_bytes(width) <= out.len() {
             0
         } else {
             6
@@ -560,36 +160,15 @@ fn start_state(width: u16) -> [u32; 32]
     ensures { λ r. ⌜ r ≡ padded 32 (start width) ⌝ }
 {
     if width == 224 {
-        return widen(compression::start_224());
+        return tail::widen(compression::start_224());
     }
     if width == 256 {
-        return widen(compression::start_256());
+        return tail::widen(compression::start_256());
     }
     if width == 384 {
         return compression::start_384();
     }
     compression::start_512()
-}
-
-// Compresses the tail, filled with zeros, where it holds a bit, and then the length block. Gives the number of compressions.
-fn close(width: u16, bits: u32, state: &mut [u32; 32], tail: &[u8]) -> usize
-    requires { ⌜ (length (now state) ≡ 32) × (length (now tail) ≡ 128) × (clear (bits % blockBits (familyOf width)) (now tail) ≡ true) ⌝ }
-    ensures { λ r. ⌜ (now (state .exit)
-        ≡ padded 32 (compression (familyOf width) true
-        (chain (familyOf width) (take (stateWords (familyOf width)) (now (state .entry)))
-        (take (bits % blockBits (familyOf width)) (bitsOf (now (tail .entry))))
-        (messageBlocks (familyOf width) (bits % blockBits (familyOf width))))
-        (lengthBlock (familyOf width) bits)))
-        × (r ≡ compressions (familyOf width) (bits % blockBits (familyOf width))) ⌝ }
-{
-    if used_bits(width, bits) == 0 {
-        finish(width, state, bits as u64);
-        return 1;
-    }
-    let size = block_bytes(width);
-    absorb(width, state, &tail[0..size]);
-    finish(width, state, bits as u64);
-    2
 }
 
 // Writes the bytes of words, low byte first, as many as the buffer takes.
@@ -649,10 +228,10 @@ fn read_word(form: &[u8], at: usize) -> u32
     requires { ⌜ at + 4 ≤ length (now form) ⌝ }
     ensures { λ r. ⌜ r ≡ number 4 (drop at (now (form .entry))) ⌝ }
 {
-    let a = wide(form[at]) as u32;
-    let b = wide(form[at + 1]) as u32;
-    let c = wide(form[at + 2]) as u32;
-    let d = wide(form[at + 3]) as u32;
+    let a = tail::wide(form[at]) as u32;
+    let b = tail::wide(form[at + 1]) as u32;
+    let c = tail::wide(form[at + 2]) as u32;
+    let d = tail::wide(form[at + 3]) as u32;
     a + 256 * b + 65536 * c + 16777216 * d
 }
 
@@ -660,7 +239,7 @@ fn read_width(form: &[u8]) -> u16
     requires { ⌜ 2 ≤ length (now form) ⌝ }
     ensures { λ r. ⌜ r ≡ formWidth (now (form .entry)) ⌝ }
 {
-    wide(form[0]) + 256 * wide(form[1])
+    tail::wide(form[0]) + 256 * tail::wide(form[1])
 }
 
 // The state of a form, in so many words.
@@ -701,11 +280,14 @@ fn restore_refusal(form: &[u8]) -> u8
     if !is_width(width) {
         return 1;
     }
-    let middle = 6 + block_bytes(width);
-    if length != middle + block_bytes(width) {
+    let middle = 6 + tail::block_bytes(width);
+    if length != middle + tail::block_bytes(width) {
         return 8;
     }
-    if bits_zero(&form[middle..length], used_bits(width, read_word(form, 2))) {
+    if tail::bits_zero(
+        &form[middle..length],
+        tail::used_bits(width, read_word(form, 2)),
+    ) {
         0
     } else {
         9
@@ -749,9 +331,9 @@ impl Hash {
         let mut state = self.state;
         let mut tail = self.tail;
         let bytes = (count + 7) / 8;
-        let blocks = advance(
+        let full = tail::advance(
             width,
-            used_bits(width, bits),
+            tail::used_bits(width, bits),
             &mut state,
             &mut tail,
             &piece[0..bytes],
@@ -765,7 +347,7 @@ impl Hash {
         };
         Fed {
             hash,
-            blocks,
+            blocks: full,
             refusal: 0,
         }
     }
@@ -787,12 +369,12 @@ impl Hash {
         let bits = self.bits;
         let mut state = self.state;
         let tail = self.tail;
-        let blocks = close(width, bits, &mut state, &tail);
+        let compressed = tail::close(width, bits, &mut state, &tail);
         let length = (width / 8) as usize;
         write_words(&mut out[0..length], state);
         Taken {
             hash: self,
-            blocks,
+            blocks: compressed,
             refusal: 0,
         }
     }
@@ -813,7 +395,7 @@ impl Hash {
         let bits = self.bits;
         let state = self.state;
         let tail = self.tail;
-        let size = block_bytes(width);
+        let size = tail::block_bytes(width);
         let length = 6 + 2 * size;
         write_form(width, bits, state, &tail, size, &mut out[0..length]);
         Stored {
@@ -833,7 +415,7 @@ impl Hash {
         }
         let width = read_width(form);
         let bits = read_word(form, 2);
-        let size = block_bytes(width);
+        let size = tail::block_bytes(width);
         let state = read_state(form, size / 4);
         let middle = 6 + size;
         let end = form.len();

@@ -2,7 +2,7 @@
 use mathlib.Core.List.{List, [], _∷_, _++_}
 use mathlib.Core.Path.{_≡_, refl, sym, ap, _∙_}
 use Prim.Native.Nat.{ℕ, zero, suc, _+_, _*_, _-_, _/_, _%_, _^_, _<_, _≤_}
-use native.Mathlib.Nat.{add-zero, zero-add, add-suc, pow-zero, pow-suc, zero-div, zero-mod, mod-lt, mod-one, mod-eq-of-lt, not-suc-le-zero}
+use native.Mathlib.Nat.{add-zero, add-suc, pow-zero, pow-suc, zero-div, zero-mod, mod-lt, mod-one, mod-eq-of-lt, not-suc-le-zero}
 use native.Mathlib.Omega.{arith}
 use native.Mathlib.Decide.{decLt}
 use lib.Dec.{lit<}

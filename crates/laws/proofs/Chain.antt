@@ -1,16 +1,15 @@
 -- Laws of blocks, of the chain of states through them, and of the numbers of blocks.
-use mathlib.Core.Bool.{Bool, true, false}
-use mathlib.Core.List.{List, [], _∷_, _++_}
+use mathlib.Core.Bool.{Bool, false}
+use mathlib.Core.List.{List, [], _++_}
 use mathlib.Core.Path.{_≡_, refl, sym, ap, _∙_}
-use Prim.Native.Nat.{ℕ, zero, suc, _+_, _*_, _-_, _/_, _%_, _<_, _≤_}
-use native.Mathlib.Nat.{add-zero, add-suc, mul-zero}
+use Prim.Native.Nat.{ℕ, zero, suc, _+_, _*_, _/_, _%_, _<_, _≤_}
+use native.Mathlib.Nat.{add-zero, add-suc}
 use native.Mathlib.Omega.{arith}
-use lib.ListN.{length, getD, take, drop, length-append, List·getD-append}
+use lib.ListN.{length, getD, drop, length-append}
 use lib.Seq.{getD-drop}
-use Rattle.simd.specs.Basic.{Family, small, large, rows, blockBytes, blockBits, stateWords, table}
+use Rattle.simd.specs.Basic.{Family, small, large, blockBytes, blockBits, stateWords}
 use Rattle.simd.specs.Message.{byteOf, block, messageBlocks}
 use Rattle.simd.specs.Steps.{State, step, steps, words, state, mixed, compression}
-use Rattle.simd.specs.Expansion.{expanded}
 use Rattle.simd.specs.Hash.{chain}
 use Rattle.laws.proofs.Table.{length-table, table-ext}
 use Rattle.laws.proofs.Bits.{byte-ext, byte-append}

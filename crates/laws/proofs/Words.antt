@@ -1,15 +1,15 @@
 -- Laws of numbers in bytes, low byte first: digits, and words there and back.
-use mathlib.Core.List.{List, [], _∷_, _++_}
+use mathlib.Core.List.{List, _++_}
 use mathlib.Core.Path.{_≡_, refl, sym, ap, _∙_}
-use Prim.Native.Nat.{ℕ, zero, suc, _+_, _*_, _-_, _/_, _%_, _^_, _<_, _≤_}
-use native.Mathlib.Nat.{add-zero, mul-zero, pow-zero, pow-suc, pow-succ', div-one, mod-one, mod-eq-of-lt, div-div-eq-div-mul, not-suc-le-zero, mul-le-mul-right, le-of-suc-le-suc}
+use Prim.Native.Nat.{ℕ, zero, suc, _+_, _*_, _/_, _%_, _^_, _<_, _≤_}
+use native.Mathlib.Nat.{pow-zero, pow-suc, pow-succ', div-one, mod-one, mod-eq-of-lt, div-div-eq-div-mul, not-suc-le-zero, mul-le-mul-right, le-of-suc-le-suc}
 use native.Mathlib.Omega.{arith}
 use native.Mathlib.Decide.{decLt}
 use lib.Arith.{mod-mul}
 use lib.Dec.{lit<}
-use lib.ListN.{length, getD, take, drop, length-take, List·getD-append, List·getD-eq-default}
+use lib.ListN.{length, getD, take, length-take, List·getD-append, List·getD-eq-default}
 use lib.Seq.{getD-take, ext-getD}
-use Rattle.simd.specs.Basic.{table, sum, wordAt, wordsOf, bytesOf}
+use Rattle.simd.specs.Basic.{sum, wordAt, wordsOf, bytesOf}
 use Rattle.laws.proofs.Table.{length-table, getD-table, table-of}
 use Rattle.laws.proofs.Sum.{sum-ext}
 

@@ -3,7 +3,7 @@ use Prim.Native.Nat.{ℕ}
 use borrow.Author.Tests.{not-true, not-false}
 use lib.ListN.{drop}
 use Rattle.simd.specs.Basic.{familyOf}
-use Rattle.hash.specs.Zero.{allZero, clear}
+use Rattle.tail.specs.Zero.{allZero, clear}
 use Rattle.hash.proofs.Refusing.{quarter, unknown-width, word-set, tail-decides}
 use borrow.Author.Needs.{needs}
 use Rattle.hash.proofs.is_legal.Statement.{statement}

@@ -1,10 +1,10 @@
-use mathlib.Core.Path.{_≡_, _∙_}
+use mathlib.Core.Path.{_∙_}
 use Prim.Native.Nat.{_≤_, _-_}
 use native.Mathlib.Omega.{arith}
 use lib.ListN.{drop}
 use Rattle.simd.specs.Basic.{wordsOf}
 use Rattle.laws.proofs.Words.{length-wordsOf}
-use Rattle.hash.proofs.Filling.{Copied, copied-none, copied-more, copied-all}
+use Rattle.tail.proofs.Filling.{Copied, copied-none, copied-more, copied-all}
 use Rattle.hash.proofs.Forming.{word-read}
 use Rattle.hash.proofs.read_state.Statement.{statement}
 use Rattle.hash.proofs.read_state.Tie as tie

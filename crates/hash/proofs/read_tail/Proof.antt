@@ -3,7 +3,7 @@ use mathlib.Core.Path.{refl, _∙_}
 use Prim.Native.Nat.{_≤_, _-_}
 use native.Mathlib.Omega.{arith}
 use lib.ListN.{length}
-use Rattle.hash.proofs.Filling.{Copied, copied-none, copied-more, copied-all}
+use Rattle.tail.proofs.Filling.{Copied, copied-none, copied-more, copied-all}
 use Rattle.hash.proofs.Forming.{blank-tail}
 use Rattle.hash.proofs.read_tail.Statement.{statement}
 use Rattle.hash.proofs.read_tail.Tie as tie

@@ -6,7 +6,7 @@ use native.Mathlib.Omega.{arith}
 use borrow.Author.Tests.{not-true, not-false}
 use Rattle.simd.specs.Basic.{familyOf, blockBits}
 use Rattle.hash.specs.Form.{formBytes, formBits}
-use Rattle.hash.proofs.Storing.{bytes-within}
+use Rattle.tail.proofs.Sizes.{bytes-within}
 use Rattle.hash.proofs.Forming.{form-short, form-unknown, form-size, form-decides}
 use borrow.Author.Needs.{needs}
 use Rattle.hash.proofs.restore_refusal.Statement.{statement}

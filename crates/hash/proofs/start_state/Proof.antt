@@ -1,5 +1,5 @@
 use mathlib.Core.Path.{ap, _∙_}
-use Rattle.hash.specs.Zero.{padded}
+use Rattle.tail.specs.Zero.{padded}
 use Rattle.hash.proofs.Starting.{start-224, start-256, start-384, start-512}
 use borrow.Author.Needs.{needs}
 use Rattle.hash.proofs.start_state.Statement.{statement}

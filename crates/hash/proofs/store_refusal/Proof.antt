@@ -3,7 +3,7 @@ use native.Mathlib.Omega.{arith}
 use lib.ListN.{length}
 use Rattle.simd.specs.Basic.{familyOf}
 use Rattle.hash.specs.Form.{formBytes}
-use Rattle.hash.proofs.Storing.{bytes-within}
+use Rattle.tail.proofs.Sizes.{bytes-within}
 use Rattle.hash.proofs.Refusing.{store-illegal, store-decides, room-fits, room-short}
 use borrow.Author.Needs.{needs}
 use Rattle.hash.proofs.store_refusal.Statement.{statement}

@@ -1,8 +1,8 @@
-use mathlib.Core.Path.{_≡_, refl, sym, ap, _∙_}
-use Prim.Native.Nat.{ℕ, _≤_, _+_, _*_, _-_, _/_, _%_, _^_}
+use mathlib.Core.Path.{refl, sym, _∙_}
+use Prim.Native.Nat.{_≤_, _-_}
 use native.Mathlib.Omega.{arith}
 use lib.ListN.{length, getD}
-use Rattle.hash.proofs.Filling.{Filled, filled-none, filled-more, filled-all, take-table}
+use Rattle.tail.proofs.Filling.{Filled, filled-none, filled-more, filled-all, take-table}
 use Rattle.hash.proofs.write_bytes.Statement.{statement}
 use Rattle.hash.proofs.write_bytes.Tie as tie
 

@@ -1,11 +1,11 @@
-use mathlib.Core.Path.{_≡_, refl, sym, ap, _∙_}
-use Prim.Native.Nat.{ℕ, _≤_, _+_, _*_, _-_, _/_, _%_, _^_}
+use mathlib.Core.Path.{_≡_, refl, sym, ap}
+use Prim.Native.Nat.{ℕ, _≤_, _-_, _/_, _%_, _^_}
 use native.Mathlib.Omega.{arith}
-use lib.ListN.{length, getD}
-use Rattle.hash.proofs.Filling.{Filled, filled-none, filled-more, filled-all}
+use lib.ListN.{length}
+use Rattle.tail.proofs.Filling.{Filled, filled-none, filled-more, filled-all}
+use Rattle.hash.proofs.Writing.{next-digit}
 use native.Mathlib.Nat.{div-one}
 use Rattle.hash.specs.Form.{littleEndian}
-use Rattle.hash.proofs.Closing.{next-digit}
 use Rattle.hash.proofs.write_number.Statement.{statement}
 use Rattle.hash.proofs.write_number.Tie as tie
 

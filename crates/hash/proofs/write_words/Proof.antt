@@ -1,9 +1,9 @@
-use mathlib.Core.Path.{_≡_, refl, sym, ap, _∙_}
-use Prim.Native.Nat.{ℕ, _≤_, _+_, _*_, _-_, _/_, _%_, _^_}
+use mathlib.Core.Path.{refl, sym, _∙_}
+use Prim.Native.Nat.{_≤_, _-_}
 use native.Mathlib.Omega.{arith}
-use lib.ListN.{length, getD}
-use Rattle.hash.proofs.Filling.{Filled, filled-none, filled-more, filled-all}
-use Rattle.hash.proofs.Closing.{wordByte, word-byte-of, take-bytes}
+use lib.ListN.{length}
+use Rattle.tail.proofs.Filling.{Filled, filled-none, filled-more, filled-all}
+use Rattle.hash.proofs.Writing.{wordByte, word-byte-of, take-bytes}
 use Rattle.hash.proofs.write_words.Statement.{statement}
 use Rattle.hash.proofs.write_words.Tie as tie
 

@@ -3,7 +3,8 @@ use Prim.Native.Nat.{_+_, _-_}
 use native.Mathlib.Omega.{arith}
 use lib.ListN.{length, drop, length-take}
 use Rattle.hash.specs.Form.{formBits, formFamily}
-use Rattle.hash.proofs.Storing.{bytes-within, form-facts}
+use Rattle.tail.proofs.Sizes.{bytes-within}
+use Rattle.hash.proofs.Storing.{form-facts}
 use Rattle.hash.proofs.Answers.{restore-refused, restore-answered, block-size}
 use borrow.Author.Needs.{needs}
 use Rattle.hash.proofs.Hash.restore.Statement.{statement}

@@ -3,7 +3,7 @@ use Prim.Native.Nat.{_+_, _*_, _-_}
 use native.Mathlib.Omega.{arith}
 use lib.ListN.{length-take}
 use Rattle.simd.specs.Basic.{familyOf}
-use Rattle.hash.proofs.Storing.{bytes-within}
+use Rattle.tail.proofs.Sizes.{bytes-within}
 use Rattle.hash.proofs.Answers.{store-refused, store-facts, store-answered}
 use borrow.Author.Needs.{needs}
 use Rattle.hash.proofs.Hash.store.Statement.{statement}

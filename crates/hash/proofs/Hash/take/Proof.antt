@@ -2,7 +2,8 @@ use Prim.Native.Nat.{_-_, _/_}
 use native.Mathlib.Omega.{arith}
 use lib.ListN.{length-take}
 use Rattle.hash.specs.Open.{family}
-use Rattle.hash.proofs.Holding.{legal-width, legal-tail, words-within}
+use Rattle.tail.proofs.Sizes.{words-within}
+use Rattle.hash.proofs.Holding.{legal-width, legal-tail}
 use Rattle.hash.proofs.Theorems.{digest-room}
 use Rattle.hash.proofs.Answers.{take-refused, take-facts, take-answered}
 use borrow.Author.Needs.{needs}
