@@ -17,7 +17,7 @@ use Rattle.simd.specs.Steps.{compression}
 use Rattle.simd.specs.Hash.{chain, compressions}
 use Rattle.laws.proofs.Bits.{getD-bitsOf, length-bitsOf}
 use Rattle.laws.proofs.Chain.{length-compression}
-use Rattle.laws.proofs.Words.{length-bytesOf}
+use Rattle.laws.proofs.LittleEndian.{length-bytesOf}
 use Rattle.tail.specs.Zero.{clear, padded}
 use Rattle.hash.specs.Open.{limit, family, used, reached, pending, holding, legal, openRefusal, opened, openAnswer, fullBlocks, advanced, pieceRefusal, feedRefusal, fed, feedAnswer, finalOf, digestOf, takeRefusal, taken, takeAnswer, written}
 use Rattle.hash.specs.Form.{littleEndian, formBytes, formOf, formWidth, formBits, formFamily, hashOf, storeRefusal, storeAnswer, restoreRefusal, restoreAnswer}

@@ -12,7 +12,7 @@ use lib.Seq.{take-all, getD-drop}
 use Rattle.simd.specs.Basic.{familyOf, isWidth, blockBytes, blockBits, bytesOf, wordAt, wordsOf, table, sum}
 use Rattle.simd.specs.Message.{byteOf}
 use Rattle.laws.proofs.Sum.{sum-ext}
-use Rattle.laws.proofs.Words.{length-bytesOf, getD-wordsOf}
+use Rattle.laws.proofs.LittleEndian.{length-bytesOf, getD-wordsOf}
 use Rattle.tail.specs.Zero.{clear}
 use Rattle.hash.specs.Form.{littleEndian, number, formBytes, formWidth, formBits, restoreRefusal}
 use Rattle.tail.proofs.Parts.{put-length, put-front, back}

@@ -14,7 +14,7 @@ use Rattle.simd.specs.Basic.{familyOf, isWidth, blockBytes, blockBits, stateWor
 use Rattle.laws.proofs.Table.{length-table, getD-table, table-of}
 use Rattle.laws.proofs.Sum.{sum-ext}
 use Rattle.laws.proofs.Bits.{getD-bitsOf, getD-take-past}
-use Rattle.laws.proofs.Words.{digits-sum, sum-digits, length-bytesOf, length-wordsOf, words-bytes, bytes-words, sum-lt, wordsOf-fit}
+use Rattle.laws.proofs.LittleEndian.{digits-sum, sum-digits, length-bytesOf, length-wordsOf, words-bytes, bytes-words, sum-lt, wordsOf-fit}
 use Rattle.tail.specs.Zero.{allZero, clear, padded}
 use Rattle.hash.specs.Open.{family, used, reached, legal}
 use Rattle.hash.specs.Form.{littleEndian, number, formBytes, formOf, formWidth, formBits, formFamily, hashOf, restoreRefusal}

@@ -10,7 +10,7 @@ use lib.Pow.{pow-add}
 use lib.Seq.{getD-take}
 use Rattle.simd.specs.Basic.{bytesOf, table}
 use Rattle.laws.proofs.Table.{table-of, table-ext}
-use Rattle.laws.proofs.Words.{getD-bytesOf, length-bytesOf}
+use Rattle.laws.proofs.LittleEndian.{getD-bytesOf, length-bytesOf}
 use Rattle.tail.specs.Zero.{padded}
 use Rattle.tail.proofs.Zeros.{getD-padded, length-padded}
 

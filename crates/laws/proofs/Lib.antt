@@ -2,4 +2,4 @@ pub mod Table
 pub mod Sum
 pub mod Bits
 pub mod Chain
-pub mod Words
+pub mod LittleEndian

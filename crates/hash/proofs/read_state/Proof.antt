@@ -3,7 +3,7 @@ use Prim.Native.Nat.{_≤_, _-_}
 use native.Mathlib.Omega.{arith}
 use lib.ListN.{drop}
 use Rattle.simd.specs.Basic.{wordsOf}
-use Rattle.laws.proofs.Words.{length-wordsOf}
+use Rattle.laws.proofs.LittleEndian.{length-wordsOf}
 use Rattle.tail.proofs.Filling.{Copied, copied-none, copied-more, copied-all}
 use Rattle.hash.proofs.Forming.{word-read}
 use Rattle.hash.proofs.read_state.Statement.{statement}
