@@ -8,3 +8,6 @@ pub mod Below
 pub mod Regroup
 pub mod Roots
 pub mod Stores
+pub mod Bits
+pub mod Chain
+pub mod LittleEndian

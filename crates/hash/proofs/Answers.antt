@@ -1,0 +1,263 @@
+-- Laws of whole answers: what the methods have put together is what the definitions say.
+use mathlib.Core.Bool.{true, false, cond}
+use mathlib.Core.List.{List, [], _++_}
+use mathlib.Core.Path.{_≡_, refl, sym, ap, _∙_}
+use Prim.Native.Nat.{ℕ, zero, suc, _+_, _*_, _-_, _/_, _%_, _^_, _<_, _≤_}
+use native.Mathlib.Nat.{sub-zero}
+use native.Mathlib.Omega.{arith}
+use borrow.Author.Tests.{leb-true}
+use borrow.Rule.Slice.PartMut.{postOf}
+use lib.Dec.{leb}
+use lib.ListN.{length, take, drop, length-take}
+use lib.Seq.{take-all, getD-take, ext-getD}
+use Rattle.simd.specs.Basic.{Family, small, large, familyOf, isWidth, blockBytes, blockBits, stateWords, bytesOf, wordsOf, table}
+use Rattle.simd.specs.Constants.{start}
+use Rattle.simd.specs.Message.{bitsOf, byteOf, message, messageBlocks, lengthBlock}
+use Rattle.simd.specs.Steps.{compression}
+use Rattle.simd.specs.Hash.{chain, compressions}
+use Rattle.laws.proofs.Bits.{getD-bitsOf, length-bitsOf}
+use Rattle.laws.proofs.Chain.{length-compression}
+use Rattle.laws.proofs.LittleEndian.{length-bytesOf}
+use Rattle.tail.specs.Zero.{clear, padded}
+use Rattle.hash.specs.Open.{limit, family, used, reached, pending, holding, legal, openRefusal, opened, openAnswer, fullBlocks, advanced, pieceRefusal, feedRefusal, fed, feedAnswer, finalOf, digestOf, takeRefusal, taken, takeAnswer, written}
+use Rattle.hash.specs.Form.{littleEndian, formBytes, formOf, formWidth, formBits, formFamily, hashOf, storeRefusal, storeAnswer, restoreRefusal, restoreAnswer}
+use Rattle.tail.specs.Shift.{Ready, joinedBits}
+use Rattle.hash.specs.declared.Hash.{Hash}
+use Rattle.tail.proofs.Zeros.{padded-take}
+use Rattle.tail.proofs.Sizes.{words-within}
+use Rattle.tail.proofs.Parts.{back}
+use Rattle.hash.proofs.Holding.{legal-width, legal-state, legal-tail, length-reached}
+use Rattle.hash.proofs.Feeding.{length-message}
+use Rattle.hash.proofs.Storing.{passed}
+use Rattle.hash.proofs.Theorems.{digest-room, digest-length}
+use Rattle.hash.proofs.Writing.{state-bytes}
+
+-- Refusals.
+fed-refused : (r : ℕ) (h : Hash) (m : List ℕ) → (r ≡ 0 → ⊥) → record { hash = h; blocks = 0; refusal = r } ≡ fed r h m
+unfolding fed
+fed-refused zero h m some = absurd (some refl)
+fed-refused (suc r) h m some = refl
+
+pub feed-refused : (h : Hash) (piece : List ℕ) (count r : ℕ) → r ≡ feedRefusal h piece count → (r ≡ 0 → ⊥)
+    → record { hash = h; blocks = 0; refusal = r } ≡ feedAnswer h piece count
+unfolding feedAnswer
+feed-refused h piece count r same some = fed-refused r h (message piece count) some ∙ ap (λ (r : ℕ). fed r h (message piece count)) same
+
+taken-refused : (r : ℕ) (h : Hash) → (r ≡ 0 → ⊥) → record { hash = h; blocks = 0; refusal = r } ≡ taken r h
+unfolding taken
+taken-refused zero h some = absurd (some refl)
+taken-refused (suc r) h some = refl
+
+unwritten : (r : ℕ) (bytes out : List ℕ) → (r ≡ 0 → ⊥) → out ≡ written r bytes out
+unfolding written
+unwritten zero bytes out some = absurd (some refl)
+unwritten (suc r) bytes out some = refl
+
+pub take-refused : (h : Hash) (out : List ℕ) (r : ℕ) → r ≡ takeRefusal h out → (r ≡ 0 → ⊥)
+    → (record { hash = h; blocks = 0; refusal = r } ≡ takeAnswer h out) × (out ≡ written (takeRefusal h out) (digestOf h) out)
+unfolding takeAnswer
+take-refused h out r same some =
+    (taken-refused r h some ∙ ap (λ (r : ℕ). taken r h) same, unwritten r (digestOf h) out some ∙ ap (λ (r : ℕ). written r (digestOf h) out) same)
+
+pub store-refused : (h : Hash) (out : List ℕ) (r : ℕ) → r ≡ storeRefusal h out → (r ≡ 0 → ⊥)
+    → (record { hash = h; refusal = r } ≡ storeAnswer h out) × (out ≡ written (storeRefusal h out) (formOf h) out)
+unfolding storeAnswer
+store-refused h out r same some =
+    (λ i. record { hash = h; refusal = same i }, unwritten r (formOf h) out some ∙ ap (λ (r : ℕ). written r (formOf h) out) same)
+
+opened-refused : (r : ℕ) (h : Hash) → (r ≡ 0 → ⊥) → record { hash = holding 0 0 [] []; refusal = r } ≡ opened r h
+unfolding opened
+opened-refused zero h some = absurd (some refl)
+opened-refused (suc r) h some = refl
+
+pub restore-refused : (form : List ℕ) (zeros : Hash) (r : ℕ) → zeros ≡ holding 0 0 [] [] → r ≡ restoreRefusal form → (r ≡ 0 → ⊥)
+    → record { hash = zeros; refusal = r } ≡ restoreAnswer form
+unfolding restoreAnswer
+restore-refused form zeros r blank same some =
+    (λ i. record { hash = blank i; refusal = r }) ∙ opened-refused r (hashOf form) some ∙ ap (λ (r : ℕ). opened r (hashOf form)) same
+
+-- Opened.
+pub open-refused : (width : ℕ) (zeros : Hash) → zeros ≡ holding 0 0 [] [] → isWidth width ≡ false → record { hash = zeros; refusal = 1 } ≡ openAnswer width
+unfolding openAnswer openRefusal opened
+open-refused width zeros blank unknown = rw unknown (λ i. record { hash = blank i; refusal = 1 })
+
+pub open-answered : (width : ℕ) (state tail : List ℕ) → state ≡ padded 32 (start width) → tail ≡ table 128 (byteOf []) → isWidth width ≡ true
+    → record { hash = record { width = width; bits = 0; state = state; tail = tail }; refusal = 0 } ≡ openAnswer width
+unfolding openAnswer openRefusal opened holding
+open-answered width state tail started blank known =
+    rw known (λ i. record { hash = record { width = width; bits = 0; state = started i; tail = blank i }; refusal = 0 })
+
+-- Fed. What an accepted piece fulfils.
+pub record Accepts (h : Hash) (piece : List ℕ) (count : ℕ) : Type 0 where
+  pub good : legal h ≡ true
+  pub within : count ≤ 8 * length piece
+  pub clean : clear count (take ((count + 7) / 8) piece) ≡ true
+  pub short : h .bits + count ≤ limit
+
+pub feed-facts : (h : Hash) (piece : List ℕ) (count r : ℕ) → r ≡ feedRefusal h piece count → r ≡ 0 → Accepts h piece count
+unfolding feedRefusal pieceRefusal
+feed-facts h piece count r same none =
+    let e = sym same ∙ none in
+    let fits = leb count (8 * length piece) in
+    let clean = clear count (take ((count + 7) / 8) piece) in
+    let short = leb (h .bits + count) limit in
+    let first = passed (legal h) (cond fits (cond clean (cond short 0 4) 3) 2) 4 e in
+    let second = passed fits (cond clean (cond short 0 4) 3) 1 (first .1) in
+    let third = passed clean (cond short 0 4) 2 (second .1) in
+    let fourth = passed short 0 3 (third .1) in
+    record {
+      good = first .0;
+      within = leb-true count (8 * length piece) (second .0);
+      clean = third .0;
+      short = leb-true (h .bits + count) limit (fourth .0);
+    }
+
+used-below : (f : Family) (n : ℕ) → n % blockBits f < blockBits f
+used-below small n = omega arith
+used-below large n = omega arith
+
+module _ (h : Hash) (piece : List ℕ) (count : ℕ) (a : Accepts h piece count) where
+  bytes-used : (count + 7) / 8 - 0 ≡ (count + 7) / 8
+  bytes-used = sub-zero ((count + 7) / 8)
+
+  pub ready : (n : ℕ) → n ≡ used h → length (h .state) ≡ 32 → length (h .tail) ≡ 128
+      → Ready (h .width) n (h .state) (h .tail) (take ((count + 7) / 8 - 0) piece) count
+  ready n same words bytes =
+      record {
+        words = words;
+        bytes = bytes;
+        below = rw same (used-below (family h) (h .bits));
+        state-clear = legal-state h (a .good);
+        tail-clear = rw same (legal-tail h (a .good));
+        source = omega (arith, length-take ((count + 7) / 8 - 0) piece, a .within);
+        source-clear = rw bytes-used (a .clean);
+        short = omega (arith, a .short);
+      }
+
+  -- The bits of the bytes used are the piece's.
+  piece-bits : take count (bitsOf (take ((count + 7) / 8 - 0) piece)) ≡ message piece count
+  unfolding message
+  piece-bits =
+      let n = (count + 7) / 8 - 0 in
+      let few = length-bitsOf (take n piece) in
+      let all = length-bitsOf piece in
+      let size : length (take count (bitsOf (take n piece))) ≡ length (take count (bitsOf piece)) =
+      omega (arith, a .within, length-take count (bitsOf (take n piece)), length-take count (bitsOf piece), few, all, length-take n piece) in
+      ext-getD 0 (take count (bitsOf (take n piece))) (take count (bitsOf piece)) size
+      (λ i below.
+      let inside : i < count = omega (arith, length-take count (bitsOf (take n piece))) in
+      let place : 8 * (i / 8) + i % 8 ≡ i = omega arith in
+      let left = rw place at (getD-bitsOf (take n piece) (i / 8) (i % 8) (omega arith)) in
+      let right = rw place at (getD-bitsOf piece (i / 8) (i % 8) (omega arith)) in
+      let byte = getD-take n piece (i / 8) 0 (omega arith) in
+      getD-take count (bitsOf (take n piece)) i 0 inside
+      ∙ left ∙ ap (λ (b : ℕ). b / 2 ^ (7 - i % 8) % 2) byte ∙ sym right
+      ∙ sym (getD-take count (bitsOf piece) i 0 inside))
+
+  pub feed-answered : (n r : ℕ) → n ≡ used h → r ≡ feedRefusal h piece count → r ≡ 0 → (state′ tail′ : List ℕ) (blocks : ℕ)
+      → state′ ≡ padded 32 (chain (family h) (take (stateWords (family h)) (h .state)) (joinedBits n (h .tail) (take ((count + 7) / 8 - 0) piece) count) ((n + count) / blockBits (family h)))
+      → tail′ ≡ table 128 (byteOf (drop (blockBits (family h) * ((n + count) / blockBits (family h))) (joinedBits n (h .tail) (take ((count + 7) / 8 - 0) piece) count)))
+      → blocks ≡ (n + count) / blockBits (family h)
+      → record { hash = record { width = h .width; bits = h .bits + count; state = state′; tail = tail′ }; blocks = blocks; refusal = 0 } ≡ feedAnswer h piece count
+  unfolding feedAnswer fed advanced fullBlocks holding reached pending joinedBits
+  feed-answered n r same refuses none state′ tail′ blocks stated left counted =
+      let f = family h in
+      let size = length-message piece count (a .within) in
+      let joined : joinedBits n (h .tail) (take ((count + 7) / 8 - 0) piece) count ≡ pending h ++ message piece count =
+      λ i. take (same i) (bitsOf (h .tail)) ++ piece-bits i in
+      let full : (n + count) / blockBits f ≡ (used h + length (message piece count)) / blockBits f = λ i. (same i + sym size i) / blockBits f in
+      let total : h .bits + count ≡ h .bits + length (message piece count) = ap (λ (m : ℕ). h .bits + m) (sym size) in
+      let state = stated ∙ λ i. padded 32 (chain f (reached h) (joined i) (full i)) in
+      let tail = left ∙ λ i. table 128 (byteOf (drop (blockBits f * full i) (joined i))) in
+      rw (sym refuses ∙ none) (λ i. record {
+        hash = record { width = h .width; bits = total i; state = state i; tail = tail i };
+        blocks = (counted ∙ full) i;
+        refusal = 0;
+      })
+
+-- Taken.
+pub take-facts : (h : Hash) (out : List ℕ) (r : ℕ) → r ≡ takeRefusal h out → r ≡ 0 → (legal h ≡ true) × (h .width / 8 ≤ length out)
+unfolding takeRefusal
+take-facts h out r same none =
+    let room = leb (h .width / 8) (length out) in
+    let first = passed (legal h) (cond room 0 6) 4 (sym same ∙ none) in
+    (first .0, leb-true (h .width / 8) (length out) (passed room 0 5 (first .1) .0))
+
+-- A front of n bytes written into a buffer.
+front-written : (n : ℕ) (bytes out : List ℕ) → length bytes ≡ n → bytes ++ postOf 0 (n - 0) out ≡ written 0 bytes out
+unfolding written
+front-written n bytes out size = ap (λ (k : ℕ). bytes ++ drop k out) (sub-zero n ∙ sym size)
+
+words-above : (h : Hash) → legal h ≡ true → h .width / 8 ≤ 4 * stateWords (family h)
+words-above h good = digest-room (h .width) (legal-width h good)
+
+pub take-answered : (h : Hash) (out : List ℕ) (r : ℕ) → r ≡ takeRefusal h out → r ≡ 0 → (state′ bytes : List ℕ) (blocks : ℕ)
+    → state′ ≡ padded 32 (compression (family h) true
+    (chain (family h) (take (stateWords (family h)) (h .state)) (take (used h) (bitsOf (h .tail))) (messageBlocks (family h) (used h))) (lengthBlock (family h) (h .bits)))
+    → blocks ≡ compressions (family h) (used h)
+    → bytes ≡ take (length (take (h .width / 8 - 0) out)) (bytesOf state′)
+    → (record { hash = h; blocks = blocks; refusal = 0 } ≡ takeAnswer h out)
+    × (bytes ++ postOf 0 (h .width / 8 - 0) out ≡ written (takeRefusal h out) (digestOf h) out)
+unfolding takeAnswer taken digestOf finalOf reached pending
+take-answered h out r same none state′ bytes blocks stated counted wrote =
+    let facts = take-facts h out r same none in
+    let zero-refusal = sym same ∙ none in
+    let n = h .width / 8 in
+    let size : length (take (n - 0) out) ≡ n = omega (arith, length-take (n - 0) out, facts .1) in
+    let words = length-compression (family h) true
+    (chain (family h) (take (stateWords (family h)) (h .state)) (take (used h) (bitsOf (h .tail))) (messageBlocks (family h) (used h))) (lengthBlock (family h) (h .bits)) in
+    let digest : bytes ≡ digestOf h =
+    wrote
+    ∙ (λ i. take (size i) (bytesOf (stated i)))
+    ∙ state-bytes n (finalOf h) (omega (arith, words, words-above h (facts .0))) (omega (arith, words, words-within (family h))) in (
+      rw zero-refusal (λ i. record { hash = h; blocks = counted i; refusal = 0 }),
+      rw zero-refusal (front-written n bytes out (ap length digest ∙ digest-length h (facts .0)) ∙ ap (λ (b : List ℕ). written 0 b out) digest),
+    )
+
+-- Stored.
+pub store-facts : (h : Hash) (out : List ℕ) (r : ℕ) → r ≡ storeRefusal h out → r ≡ 0 → (legal h ≡ true) × (formBytes (family h) ≤ length out)
+unfolding storeRefusal
+store-facts h out r same none =
+    let room = leb (formBytes (family h)) (length out) in
+    let first = passed (legal h) (cond room 0 6) 4 (sym same ∙ none) in
+    (first .0, leb-true (formBytes (family h)) (length out) (passed room 0 5 (first .1) .0))
+
+pub store-answered : (h : Hash) (out : List ℕ) (r : ℕ) → r ≡ storeRefusal h out → r ≡ 0 → length (h .state) ≡ 32 → length (h .tail) ≡ 128 → (size : ℕ) → size ≡ blockBytes (family h) → (bytes : List ℕ)
+    → bytes ≡ littleEndian 2 (h .width) ++ littleEndian 4 (h .bits) ++ take size (bytesOf (h .state)) ++ take size (h .tail)
+    → length bytes ≡ 6 + 2 * size
+    → (record { hash = h; refusal = 0 } ≡ storeAnswer h out)
+    × (bytes ++ postOf 0 (6 + 2 * size - 0) out ≡ written (storeRefusal h out) (formOf h) out)
+unfolding storeAnswer formOf reached
+store-answered h out r same none words long size block bytes wrote count =
+    let good = store-facts h out r same none .0 in
+    let f = family h in
+    let w = take (stateWords f) (h .state) in
+    let fits : padded 32 w ≡ h .state = padded-take 32 (stateWords f) (h .state) words (legal-state h good) in
+    let count-words = length-reached h words in
+    let state : take size (bytesOf (h .state)) ≡ bytesOf w =
+    ap (λ (l : List ℕ). take size (bytesOf l)) (sym fits)
+    ∙ state-bytes size w (omega (arith, count-words)) (omega (arith, count-words, words-within f))
+    ∙ take-all size (bytesOf w) (omega (arith, count-words, length-bytesOf w)) in
+    let form : bytes ≡ formOf h =
+    wrote ∙ λ i. littleEndian 2 (h .width) ++ littleEndian 4 (h .bits) ++ state i ++ take (block i) (h .tail) in
+    let zero-refusal = sym same ∙ none in (
+      (λ i. record { hash = h; refusal = (sym none ∙ same) i }),
+      rw zero-refusal (front-written (6 + 2 * size) bytes out count ∙ ap (λ (b : List ℕ). written 0 b out) form),
+    )
+
+-- Restored.
+pub block-size : (form : List ℕ) (width size : ℕ) → width ≡ formWidth form → size ≡ blockBytes (familyOf width) → size ≡ blockBytes (formFamily form)
+block-size form width size wide block = block ∙ ap (λ (w : ℕ). blockBytes (familyOf w)) wide
+
+pub restore-answered : (form : List ℕ) (r : ℕ) → r ≡ restoreRefusal form → r ≡ 0 → (width bits size : ℕ) (state tail : List ℕ)
+    → width ≡ formWidth form → bits ≡ formBits form → size ≡ blockBytes (familyOf width)
+    → state ≡ padded 32 (wordsOf (size / 4) (drop 6 form)) → tail ≡ padded 128 (take (length form - (6 + size)) (drop (6 + size) form))
+    → record { hash = record { width = width; bits = bits; state = state; tail = tail }; refusal = 0 } ≡ restoreAnswer form
+unfolding restoreAnswer opened hashOf
+restore-answered form r same none width bits size state tail wide length-read block words rest =
+    let whole = block-size form width size wide block in
+    let quarter : size / 4 ≡ stateWords (formFamily form) = omega arith in
+    let state-read = words ∙ ap (λ (n : ℕ). padded 32 (wordsOf n (drop 6 form))) quarter in
+    let tail-read = rest ∙ ap (padded 128) (back (6 + size) form) ∙ ap (λ (n : ℕ). padded 128 (drop (6 + n) form)) whole in
+    rw (sym same ∙ none)
+    (λ i. record { hash = record { width = wide i; bits = length-read i; state = state-read i; tail = tail-read i }; refusal = 0 })

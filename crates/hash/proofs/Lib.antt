@@ -1,0 +1,9 @@
+pub mod Holding
+pub mod Feeding
+pub mod Storing
+pub mod Theorems
+pub mod Refusing
+pub mod Starting
+pub mod Writing
+pub mod Forming
+pub mod Answers

@@ -1,0 +1,81 @@
+-- Laws of refusals: one for each way out of a check.
+use mathlib.Core.Bool.{true, false, cond}
+use mathlib.Core.List.{List}
+use mathlib.Core.Path.{_≡_}
+use Prim.Native.Nat.{ℕ, _+_, _*_, _-_, _/_, _<_, _≤_}
+use native.Mathlib.Omega.{arith}
+use borrow.Author.Tests.{le-leb, lt-leb}
+use lib.Dec.{leb}
+use lib.ListN.{length, take, drop}
+use Rattle.simd.specs.Basic.{Family, isWidth, blockBytes, stateWords}
+use Rattle.tail.specs.Zero.{allZero, clear}
+use Rattle.hash.specs.Open.{limit, family, used, legal, pieceRefusal, feedRefusal, takeRefusal}
+use Rattle.hash.specs.Form.{formBytes, storeRefusal}
+use Rattle.hash.specs.declared.Hash.{Hash}
+
+-- Words of a state of 16 R bytes.
+pub quarter : (f : Family) (size : ℕ) → size ≡ blockBytes f → size / 4 ≡ stateWords f
+quarter f size same = omega arith
+
+module _ (h : Hash) where
+  pub unknown-width : isWidth (h .width) ≡ false → false ≡ legal h
+  unfolding legal
+  unknown-width unknown = rw unknown
+
+  pub word-set : isWidth (h .width) ≡ true → allZero (drop (stateWords (family h)) (h .state)) ≡ false → false ≡ legal h
+  unfolding legal
+  word-set known word = rw (known, word)
+
+  pub tail-decides : isWidth (h .width) ≡ true → allZero (drop (stateWords (family h)) (h .state)) ≡ true → clear (used h) (h .tail) ≡ legal h
+  unfolding legal
+  tail-decides known zeros = rw (known, zeros)
+
+module _ (n : ℕ) (piece : List ℕ) (count : ℕ) where
+  pub count-above : 8 * length piece < count → 2 ≡ pieceRefusal n piece count
+  unfolding pieceRefusal
+  count-above above = rw (lt-leb count (8 * length piece) above)
+
+  module _ (bytes : ℕ) (used-bytes : bytes ≡ (count + 7) / 8) (within : count ≤ 8 * length piece) where
+    pub bit-past : clear count (take (bytes - 0) piece) ≡ false → 3 ≡ pieceRefusal n piece count
+    unfolding pieceRefusal
+    bit-past bit =
+        let same : (count + 7) / 8 ≡ bytes - 0 = omega arith in
+        rw (le-leb count (8 * length piece) within, same, bit)
+
+    pub total-decides : clear count (take (bytes - 0) piece) ≡ true → cond (leb (n + count) limit) 0 4 ≡ pieceRefusal n piece count
+    unfolding pieceRefusal
+    total-decides clean =
+        let same : (count + 7) / 8 ≡ bytes - 0 = omega arith in
+        rw (le-leb count (8 * length piece) within, same, clean)
+
+module _ (h : Hash) (out : List ℕ) where
+  pub take-illegal : legal h ≡ false → 5 ≡ takeRefusal h out
+  unfolding takeRefusal
+  take-illegal bad = rw bad
+
+  pub take-decides : legal h ≡ true → cond (leb (h .width / 8) (length out)) 0 6 ≡ takeRefusal h out
+  unfolding takeRefusal
+  take-decides good = rw good
+
+  pub store-illegal : legal h ≡ false → 5 ≡ storeRefusal h out
+  unfolding storeRefusal
+  store-illegal bad = rw bad
+
+  pub store-decides : legal h ≡ true → cond (leb (formBytes (family h)) (length out)) 0 6 ≡ storeRefusal h out
+  unfolding storeRefusal
+  store-decides good = rw good
+
+module _ (h : Hash) (piece : List ℕ) (count : ℕ) where
+  pub feed-illegal : legal h ≡ false → 5 ≡ feedRefusal h piece count
+  unfolding feedRefusal
+  feed-illegal bad = rw bad
+
+  pub feed-decides : legal h ≡ true → pieceRefusal (h .bits) piece count ≡ feedRefusal h piece count
+  unfolding feedRefusal
+  feed-decides good = rw good
+
+pub room-fits : (a b : ℕ) → a ≤ b → _≡_ {A = ℕ} (cond (leb a b) 0 6) 0
+room-fits a b within = rw (le-leb a b within)
+
+pub room-short : (a b : ℕ) → b < a → _≡_ {A = ℕ} (cond (leb a b) 0 6) 6
+room-short a b short = rw (lt-leb a b short)
