@@ -1,3 +1,6 @@
 pub mod ListLaws
 pub mod MessageLaws
+pub mod ByteLaws
 pub mod PairLaws
+pub mod FoundLaws
+pub mod Theorems

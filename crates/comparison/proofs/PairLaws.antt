@@ -1,0 +1,70 @@
+-- Laws of the pairs of a message.
+use mathlib.Core.Bool.{Bool, true, false, not, _&&_}
+use mathlib.Core.List.{List}
+use mathlib.Core.Path.{_≡_, refl, sym, ap, _∙_, subst}
+use Prim.Native.Nat.{ℕ, zero, suc, _+_, _-_, _<_, _≤_, min}
+use native.Mathlib.Nat.{add-comm}
+use native.Mathlib.Numerals.{add-one}
+use native.Mathlib.Omega.{arith}
+use lib.Dec.{eqb, eqb·suc-zero}
+use lib.ListN.{length}
+use Rattle.simd.specs.Basic.{Family}
+use Rattle.simd.specs.Message.{block, messageBlocks, lengthBlock}
+use Rattle.simd.specs.Steps.{compression}
+use Rattle.simd.specs.Hash.{chain, final, compressions}
+use Rattle.comparison.specs.Lists.{equal, least}
+use Rattle.comparison.specs.Pairs.{stateAt, blockAt, outOf, unlike, differAt}
+use Rattle.comparison.specs.Compared.{common}
+use Rattle.comparison.proofs.ListLaws.{equal-true, equal-refl, least-is}
+use Rattle.comparison.proofs.MessageLaws.{IsMessage, message-ext, length-ext}
+
+-- The state that comes out of a message block goes into the next block; the one that comes out of the length block is the final state.
+pub out-of-message : (f : Family) (from m : List ℕ) (n : ℕ) → n < messageBlocks f (length m) → outOf f from m (suc n) ≡ stateAt f from m n
+unfolding outOf stateAt blockAt chain
+out-of-message f from m n h =
+    let next : suc (messageBlocks f (length m) - suc n) ≡ messageBlocks f (length m) - n = omega arith in
+    rw (eqb·suc-zero n) (ap (chain f from m) next)
+
+pub out-of-length : (f : Family) (from m : List ℕ) → outOf f from m 0 ≡ final f from m
+unfolding outOf stateAt blockAt final
+out-of-length f from m =
+    let all : messageBlocks f (length m) - 0 ≡ messageBlocks f (length m) = omega arith in
+    ap (λ (k : ℕ). compression f true (chain f from m k) (lengthBlock f (length m))) all
+
+-- Pairs that do not differ are equal, and equal ones do not differ.
+alike-both : (p q : Bool) → not (p && q) ≡ false → (p ≡ true) × (q ≡ true)
+alike-both true true e = (refl, refl)
+alike-both true false e = absurd (let z : _≡_ {A = ℕ} 0 1 = cc in omega arith)
+alike-both false q e = absurd (let z : _≡_ {A = ℕ} 0 1 = cc in omega arith)
+
+pub alike : (s b s′ b′ : List ℕ) → unlike s b s′ b′ ≡ false → (s ≡ s′) × (b ≡ b′)
+unfolding unlike
+alike s b s′ b′ e =
+    let both = alike-both (equal s s′) (equal b b′) e in
+    (equal-true s s′ (both .0), equal-true b b′ (both .1))
+
+pub like : (s b s′ b′ : List ℕ) → s ≡ s′ → b ≡ b′ → unlike s b s′ b′ ≡ false
+unfolding unlike
+like s b s′ b′ e h = rw (← e, ← h, equal-refl s, equal-refl b)
+
+-- Messages that break no rule and whose pairs are equal at all common numbers are the same.
+module _ (f : Family) (from a b : List ℕ) (wa : IsMessage a) (wb : IsMessage b) where
+  pub all-alike : ((n : ℕ) → n < common f a b → differAt f from a b n ≡ false) → a ≡ b
+  unfolding common compressions differAt blockAt
+  all-alike h = message-ext f a b wa wb lengths blocks
+    where
+      pairs : (n : ℕ) → n < common f a b → blockAt f a n ≡ blockAt f b n
+      pairs n low = alike (stateAt f from a n) (blockAt f a n) (stateAt f from b n) (blockAt f b n) (h n low) .1
+      lengths : length a ≡ length b
+      lengths = length-ext f (length a) (length b) (wa .short) (wb .short) (pairs 0 (omega arith))
+      blocks : (k : ℕ) → k < messageBlocks f (length a) → block f a k ≡ block f b k
+      blocks k low =
+          let here : messageBlocks f (length a) - suc (messageBlocks f (length a) - suc k) ≡ k = omega arith in
+          let there : messageBlocks f (length b) - suc (messageBlocks f (length a) - suc k) ≡ k = rw (← lengths) here in
+          let counts : messageBlocks f (length a) ≡ messageBlocks f (length b) = ap (messageBlocks f) lengths in
+          ap (block f a) (sym here) ∙ pairs (suc (messageBlocks f (length a) - suc k)) (omega arith) ∙ ap (block f b) there
+
+-- A message has the same pairs as itself.
+pub none-differ : (f : Family) (from m : List ℕ) (n : ℕ) → differAt f from m m n ≡ false
+unfolding differAt
+none-differ f from m n = like (stateAt f from m n) (blockAt f m n) (stateAt f from m n) (blockAt f m n) refl refl
