@@ -3,4 +3,5 @@ pub mod MessageLaws
 pub mod ByteLaws
 pub mod PairLaws
 pub mod FoundLaws
+pub mod BlockLaws
 pub mod Theorems

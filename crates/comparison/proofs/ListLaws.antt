@@ -8,6 +8,8 @@ use native.Mathlib.Nat.{add-zero, add-suc, suc-add}
 use native.Mathlib.Omega.{arith}
 use borrow.Author.Tests.{eqb-true, eq-eqb}
 use lib.Dec.{eqb}
+use lib.ListN.{length, getD}
+use lib.Seq.{ext-getD}
 use Rattle.comparison.specs.Lists.{equal, least}
 
 true≢false : true ≡ false → ⊥
@@ -99,3 +101,13 @@ least-ext p q (suc k) n e =
     let rest = least-ext p q k (suc n) (λ i low high. e i (omega arith) (omega arith)) in
     let first = e n (omega arith) (omega arith) in
     λ i. cond (first i) n (rest i)
+
+-- Lists of one length with equal elements are equal; those with another length, or another element at a place, are not.
+pub equal-all : (a b : List ℕ) → length a ≡ length b → ((k : ℕ) → k < length a → getD a k 0 ≡ getD b k 0) → equal a b ≡ true
+equal-all a b e h = same-equal a b (ext-getD 0 a b e h)
+
+pub unequal-lengths : (a b : List ℕ) → (length a ≡ length b → ⊥) → equal a b ≡ false
+unequal-lengths a b h = not-equal a b (λ e. h (ap length e))
+
+pub unequal-at : (a b : List ℕ) (i : ℕ) → (getD a i 0 ≡ getD b i 0 → ⊥) → equal a b ≡ false
+unequal-at a b i h = not-equal a b (λ e. h (ap (λ (l : List ℕ). getD l i 0) e))

@@ -68,3 +68,12 @@ module _ (f : Family) (from a b : List ℕ) (wa : IsMessage a) (wb : IsMessage b
 pub none-differ : (f : Family) (from m : List ℕ) (n : ℕ) → differAt f from m m n ≡ false
 unfolding differAt
 none-differ f from m n = like (stateAt f from m n) (blockAt f m n) (stateAt f from m n) (blockAt f m n) refl refl
+
+-- The test of a pair goes by the states first.
+pub unlike-states : (s x t y : List ℕ) → equal s t ≡ false → true ≡ unlike s x t y
+unfolding unlike
+unlike-states s x t y e = rw e
+
+pub unlike-blocks : (s x t y : List ℕ) → equal s t ≡ true → not (equal x y) ≡ unlike s x t y
+unfolding unlike
+unlike-blocks s x t y e = rw e
