@@ -4,13 +4,15 @@ use mathlib.Core.List.{List, _++_}
 use mathlib.Core.Path.{_≡_, refl, sym, ap, _∙_, subst}
 use Prim.Native.Nat.{ℕ, zero, suc, _+_, _*_, _-_, _/_, _<_, _≤_, min}
 use native.Mathlib.Decide.{decLt}
+use native.Mathlib.Numerals.{add-one}
 use native.Mathlib.Omega.{arith}
 use lib.ListN.{length, getD, take, drop, length-append, length-take, length-drop, length-replicate, getD-replicate, List·getD-append, List·getD-eq-default}
 use lib.Seq.{take-all, getD-take, getD-drop, getD-append-add}
 use Rattle.simd.specs.Basic.{Family, small, large, rows, blockBytes, table}
 use Rattle.simd.specs.Message.{bitsOf, block}
+use Rattle.simd.specs.Hash.{chain}
 use Rattle.simd.specs.Steps.{compression}
-use Rattle.laws.proofs.Table.{table-of}
+use Rattle.laws.proofs.Table.{length-table, table-of}
 use Rattle.compression.specs.Absorbed.{absorbed}
 use Rattle.comparison.specs.Lockstep.{zeros}
 use Rattle.comparison.proofs.ByteLaws.{block-of-bytes}
@@ -58,9 +60,19 @@ pub block-padded : (f : Family) (bytes : List ℕ) (k at n : ℕ) (old new : Lis
     → new ≡ take n (drop at bytes) ++ drop (length (take n (drop at bytes))) old → new ≡ block f (bitsOf bytes) k
 block-padded f bytes k at n old new are-bytes start inside count clear copied =
     let whole : new ≡ padded (part bytes at (blockBytes f) inside) (blockBytes f) =
-      copied ∙ rw (count, clear) in
+    copied ∙ rw (count, clear) in
     whole
     ∙ table-of 0 (blockBytes f) (λ j. getD bytes (at + j) 0) _ (length-padded bytes at (blockBytes f) inside)
     (λ i low. padded-at bytes at (blockBytes f) inside i low (decLt i _))
     ∙ ap (λ (a : ℕ). table (blockBytes f) (λ j. getD bytes (a + j) 0)) start
     ∙ sym (block-of-bytes f bytes k are-bytes)
+
+pub length-block : (f : Family) (m : List ℕ) (k : ℕ) {b : List ℕ} → b ≡ block f m k → length b ≡ blockBytes f
+unfolding block
+length-block f m k e = ap length e ∙ length-table _ _
+
+-- One block more of a chain.
+pub one-more : (f : Family) (from m : List ℕ) (k : ℕ) {s t b : List ℕ} → t ≡ compression f false s b → s ≡ chain f from m k → b ≡ block f m k
+    → t ≡ chain f from m (k + 1)
+unfolding chain
+one-more f from m k step before new = step ∙ rw (before, new, add-one k)

@@ -74,6 +74,12 @@ accepted bytes count e =
 abbrev pub used : ℕ → ℕ
 used count = (count + 7) / 8
 
+-- The blocks of the bytes used are those of the message.
+pub used-blocks : (f : Family) (count l : ℕ) → l ≡ used count → (l + (blockBytes f - 1)) / blockBytes f ≡ messageBlocks f count
+unfolding messageBlocks
+used-blocks small count l e = omega arith
+used-blocks large count l e = omega arith
+
 -- Where the low u bits of a number are 0, so is each of them.
 low-bit : (x u e : ℕ) → x % 2 ^ u ≡ 0 → e < u → x / 2 ^ e % 2 ≡ 0
 low-bit x u e z h =

@@ -53,17 +53,19 @@ module _ (f : Family) (from a b : List ℕ) where
 
   pub found-same : (found f from a b ≡ same) ↔ (a ≡ b)
   unfolding found
-  found-same =
-      (λ e. equal-true a b (pick-same (equal a b) finals number e),
-      λ e. rw (same-equal a b e))
+  found-same = (
+    λ e. equal-true a b (pick-same (equal a b) finals number e),
+    λ e. rw (same-equal a b e),
+  )
 
   pub found-apart : (found f from a b ≡ apart) ↔ ((a ≡ b → ⊥) × (final f from a ≡ final f from b → ⊥))
   unfolding found
-  found-apart =
-      (λ e.
-      let tests = pick-apart (equal a b) finals number e in
-      (equal-false a b (tests .0), equal-false (final f from a) (final f from b) (tests .1)),
-      λ h. rw (not-equal a b (h .0), not-equal (final f from a) (final f from b) (h .1)))
+  found-apart = (
+    λ e.
+        let tests = pick-apart (equal a b) finals number e in
+        (equal-false a b (tests .0), equal-false (final f from a) (final f from b) (tests .1)),
+    λ h. rw (not-equal a b (h .0), not-equal (final f from a) (final f from b) (h .1)),
+  )
 
   meet-tests : (k : ℕ) → found f from a b ≡ meet k → (equal a b ≡ false) × (finals ≡ true) × (number ≡ k)
   unfolding found
@@ -71,11 +73,12 @@ module _ (f : Family) (from a b : List ℕ) where
 
   pub found-meet : ((k : ℕ) × (found f from a b ≡ meet k)) ↔ ((a ≡ b → ⊥) × (final f from a ≡ final f from b))
   unfolding found
-  found-meet =
-      (λ e.
-      let tests = meet-tests (e .0) (e .1) in
-      (equal-false a b (tests .0), equal-true (final f from a) (final f from b) (tests .1)),
-      λ h. (number, rw (not-equal a b (h .0), same-equal (final f from a) (final f from b) (h .1))))
+  found-meet = (
+    λ e.
+        let tests = meet-tests (e .0) (e .1) in
+        (equal-false a b (tests .0), equal-true (final f from a) (final f from b) (tests .1)),
+    λ h. (number, rw (not-equal a b (h .0), same-equal (final f from a) (final f from b) (h .1))),
+  )
 
   -- Pairs at a number differ, or are equal.
   pub same-pair : (n : ℕ) → differAt f from a b n ≡ false → SamePair f from a b n

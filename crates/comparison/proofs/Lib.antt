@@ -4,4 +4,5 @@ pub mod ByteLaws
 pub mod PairLaws
 pub mod FoundLaws
 pub mod BlockLaws
+pub mod LockstepLaws
 pub mod Theorems

@@ -48,6 +48,13 @@ is-false false h = refl
 pub not-equal : (a b : List ℕ) → (a ≡ b → ⊥) → equal a b ≡ false
 not-equal a b h = is-false (equal a b) (λ t. h (equal-true a b t))
 
+pub decide : (a b : List ℕ) → Dec (a ≡ b)
+decide a b = by-test (equal a b) refl
+  where
+    by-test : (t : Bool) → equal a b ≡ t → Dec (a ≡ b)
+    by-test true e = yes (equal-true a b e)
+    by-test false e = no (equal-false a b e)
+
 -- `least`: within the numbers searched; true there, if it is one of them; false at every smaller one.
 pub record Least (p : ℕ → Bool) (k n m : ℕ) : Type 0 where
   pub from : n ≤ m
@@ -90,6 +97,7 @@ least-none p k n h = go (decLt (least p k n) (n + k))
   where
     s : Least p k n (least p k n)
     s = least-is p k n
+
     go : Dec (least p k n < n + k) → least p k n ≡ n + k
     go (yes less) = absurd (true≢false (sym (s .hit less) ∙ h (least p k n) (s .from) less))
     go (no more) = omega (arith, more, s .within)

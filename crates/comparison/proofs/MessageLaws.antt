@@ -96,7 +96,7 @@ length-byte large n j h = getD-table 128 (λ j. n / 256 ^ j % 256) j 0 (omega ar
 pub length-ext : (f : Family) (n k : ℕ) → n < 2 ^ 32 → k < 2 ^ 32 → lengthBlock f n ≡ lengthBlock f k → n ≡ k
 length-ext f n k hn hk e =
     let at : (j : ℕ) → j < 4 → n / 256 ^ j % 256 ≡ k / 256 ^ j % 256 =
-      λ j h. sym (length-byte f n j h) ∙ ap (λ (l : List ℕ). getD l j 0) e ∙ length-byte f k j h in
+    λ j h. sym (length-byte f n j h) ∙ ap (λ (l : List ℕ). getD l j 0) e ∙ length-byte f k j h in
     let high : n / 4294967296 ≡ k / 4294967296 = omega arith in
     let d3 = digit-ext 16777216 n k (at 3 (omega arith)) high in
     let d2 = digit-ext 65536 n k (at 2 (omega arith)) d3 in

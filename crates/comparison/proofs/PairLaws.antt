@@ -55,8 +55,10 @@ module _ (f : Family) (from a b : List ℕ) (wa : IsMessage a) (wb : IsMessage b
     where
       pairs : (n : ℕ) → n < common f a b → blockAt f a n ≡ blockAt f b n
       pairs n low = alike (stateAt f from a n) (blockAt f a n) (stateAt f from b n) (blockAt f b n) (h n low) .1
+
       lengths : length a ≡ length b
       lengths = length-ext f (length a) (length b) (wa .short) (wb .short) (pairs 0 (omega arith))
+
       blocks : (k : ℕ) → k < messageBlocks f (length a) → block f a k ≡ block f b k
       blocks k low =
           let here : messageBlocks f (length a) - suc (messageBlocks f (length a) - suc k) ≡ k = omega arith in

@@ -36,7 +36,7 @@ pub record MeetAt (f : Family) (from a b : List ℕ) (k : ℕ) : Type 0 where
   pub second-has : k < compressions f (length b)
   pub differ : laws.SamePair f from a b k → ⊥
   pub one-state :
-    compression f (eqb k 0) (stateAt f from a k) (blockAt f a k) ≡ compression f (eqb k 0) (stateAt f from b k) (blockAt f b k)
+      compression f (eqb k 0) (stateAt f from a k) (blockAt f a k) ≡ compression f (eqb k 0) (stateAt f from b k) (blockAt f b k)
   pub below : (i : ℕ) → i < k → laws.SamePair f from a b i
   pub smallest : (i : ℕ) → (laws.SamePair f from a b i → ⊥) → k ≤ i
 
@@ -64,15 +64,16 @@ module _ (width : ℕ) (a : List ℕ) (na : ℕ) (b : List ℕ) (nb : ℕ) (rule
   second = accepted b nb (laws.unrefused width a na b nb rules .1)
 
   same-message : SameBits a na b nb ↔ (x ≡ y)
-  same-message =
-      (λ s.
-      ext-getD 0 x y (length-message a na (first .fits) ∙ s .lengths ∙ sym (length-message b nb (second .fits)))
-      (λ i low. s .bits i (omega (arith, length-message a na (first .fits)))),
-      λ e.
-      record {
-        lengths = sym (length-message a na (first .fits)) ∙ ap length e ∙ length-message b nb (second .fits);
-        bits = λ i low. ap (λ (m : List ℕ). getD m i 0) e;
-      })
+  same-message = (
+    λ s.
+        ext-getD 0 x y (length-message a na (first .fits) ∙ s .lengths ∙ sym (length-message b nb (second .fits)))
+        (λ i low. s .bits i (omega (arith, length-message a na (first .fits)))),
+    λ e.
+        record {
+          lengths = sym (length-message a na (first .fits)) ∙ ap length e ∙ length-message b nb (second .fits);
+          bits = λ i low. ap (λ (m : List ℕ). getD m i 0) e;
+        },
+  )
 
   -- The answer, where nothing is refused.
   unrefused : answer width a na b nb ≡ verdict 0 (found f (start width) x y)
@@ -82,33 +83,36 @@ module _ (width : ℕ) (a : List ℕ) (na : ℕ) (b : List ℕ) (nb : ℕ) (rule
   -- Same exactly when lengths and bits are equal.
   pub same-exactly : (answer width a na b nb ≡ Same) ↔ SameBits a na b nb
   unfolding verdict
-  same-exactly =
-      (λ e. same-message .1 (laws.found-same f (start width) x y .0 (laws.verdict-same (found f (start width) x y) (sym unrefused ∙ e))),
-      λ s. unrefused ∙ ap (verdict 0) (laws.found-same f (start width) x y .1 (same-message .0 s)))
+  same-exactly = (
+    λ e. same-message .1 (laws.found-same f (start width) x y .0 (laws.verdict-same (found f (start width) x y) (sym unrefused ∙ e))),
+    λ s. unrefused ∙ ap (verdict 0) (laws.found-same f (start width) x y .1 (same-message .0 s)),
+  )
 
   -- Apart exactly when they differ and the final states differ.
   pub apart-exactly :
-    (answer width a na b nb ≡ Apart)
-    ↔ ((SameBits a na b nb → ⊥) × (finalState width (message a na) ≡ finalState width (message b nb) → ⊥))
+      (answer width a na b nb ≡ Apart)
+      ↔ ((SameBits a na b nb → ⊥) × (finalState width (message a na) ≡ finalState width (message b nb) → ⊥))
   unfolding verdict finalState
-  apart-exactly =
-      (λ e.
-      let h = laws.found-apart f (start width) x y .0 (laws.verdict-apart (found f (start width) x y) (sym unrefused ∙ e)) in
-      (λ s. h .0 (same-message .0 s), h .1),
-      λ h. unrefused ∙ ap (verdict 0) (laws.found-apart f (start width) x y .1 (λ e. h .0 (same-message .1 e), h .1)))
+  apart-exactly = (
+    λ e.
+        let h = laws.found-apart f (start width) x y .0 (laws.verdict-apart (found f (start width) x y) (sym unrefused ∙ e)) in
+        (λ s. h .0 (same-message .0 s), h .1),
+    λ h. unrefused ∙ ap (verdict 0) (laws.found-apart f (start width) x y .1 (λ e. h .0 (same-message .1 e), h .1)),
+  )
 
   -- Meet exactly when they differ and the final states are equal.
   pub meet-exactly :
-    ((k : ℕ) × (answer width a na b nb ≡ Meet k))
-    ↔ ((SameBits a na b nb → ⊥) × (finalState width (message a na) ≡ finalState width (message b nb)))
+      ((k : ℕ) × (answer width a na b nb ≡ Meet k))
+      ↔ ((SameBits a na b nb → ⊥) × (finalState width (message a na) ≡ finalState width (message b nb)))
   unfolding verdict finalState
-  meet-exactly =
-      (λ e.
-      let h = laws.found-meet f (start width) x y .0 (e .0, laws.verdict-meet (found f (start width) x y) (e .0) (sym unrefused ∙ e .1)) in
-      (λ s. h .0 (same-message .0 s), h .1),
-      λ h.
-      let k = laws.found-meet f (start width) x y .1 (λ e. h .0 (same-message .1 e), h .1) in
-      (k .0, unrefused ∙ ap (verdict 0) (k .1)))
+  meet-exactly = (
+    λ e.
+        let h = laws.found-meet f (start width) x y .0 (e .0, laws.verdict-meet (found f (start width) x y) (e .0) (sym unrefused ∙ e .1)) in
+        (λ s. h .0 (same-message .0 s), h .1),
+    λ h.
+        let k = laws.found-meet f (start width) x y .1 (λ e. h .0 (same-message .1 e), h .1) in
+        (k .0, unrefused ∙ ap (verdict 0) (k .1)),
+  )
 
   one-of : (z : Found) → (verdict 0 z ≡ Same) ⊎ ((verdict 0 z ≡ Apart) ⊎ ((k : ℕ) × (verdict 0 z ≡ Meet k)))
   unfolding verdict
@@ -118,7 +122,7 @@ module _ (width : ℕ) (a : List ℕ) (na : ℕ) (b : List ℕ) (nb : ℕ) (rule
 
   -- Exactly one of the three.
   pub exactly-one :
-    ExactlyOne (answer width a na b nb ≡ Same) (answer width a na b nb ≡ Apart) ((k : ℕ) × (answer width a na b nb ≡ Meet k))
+      ExactlyOne (answer width a na b nb ≡ Same) (answer width a na b nb ≡ Apart) ((k : ℕ) × (answer width a na b nb ≡ Meet k))
   exactly-one =
       record {
         one = rw unrefused (one-of (found f (start width) x y));

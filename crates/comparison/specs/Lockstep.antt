@@ -1,5 +1,5 @@
 -- What the functions under `compare` say of two byte strings whose blocks are compressed side by side.
-use mathlib.Core.Bool.{Bool, true, cond, _&&_}
+use mathlib.Core.Bool.{Bool, false, true, cond, _&&_}
 use mathlib.Core.List.{List}
 use mathlib.Core.Path.{_≡_}
 use Prim.Native.Nat.{ℕ, zero, suc, _+_, _-_}
@@ -17,6 +17,12 @@ use Rattle.comparison.specs.declared.Verdict.the-variants.{Same, Apart, 
 unfoldable pub zeros : ℕ → List ℕ
 zeros n = replicate n 0
 
+-- One block of each message compressed: the new states, and whether the pairs differ.
+pub record Turn (f : Family) (s a : List ℕ) (i : ℕ) (t b : List ℕ) (j : ℕ) (s′ t′ : List ℕ) (r : Bool) : Type 0 where
+  pub first : s′ ≡ compression f false s (block f a i)
+  pub second : t′ ≡ compression f false t (block f b j)
+  pub differ : r ≡ unlike s (block f a i) t (block f b j)
+
 -- Whether the pairs at number n differ, where the first byte string has c blocks and the second d.
 unfoldable pub unlikeAt : Family → List ℕ → List ℕ → ℕ → List ℕ → List ℕ → ℕ → ℕ → Bool
 unlikeAt f from a c from′ b d n =
@@ -28,9 +34,11 @@ pub record Passed (f : Family) (from a : List ℕ) (c : ℕ) (from′ b : List �
   pub second : t ≡ chain f from′ (bitsOf b) (d - n + k)
   pub number : met ≡ least (unlikeAt f from a c from′ b d) k (suc n - k)
 
--- The length blocks have number 0, and the states after them are the final ones.
+-- The length blocks have number 0: they differ where the lengths do, and the states after them are the final ones.
+unfoldable pub withLength : List ℕ → ℕ → List ℕ → ℕ → ℕ → ℕ
+withLength s m t n met = cond (equal s t && eqb m n) met 0
+
 unfoldable pub judged : Family → List ℕ → ℕ → List ℕ → ℕ → ℕ → ℕ → Verdict
 judged f s m t n met none =
-    let number = cond (equal s t && eqb m n) met 0 in
-    cond (eqb number none) Same
-    (cond (equal (compression f true s (lengthBlock f m)) (compression f true t (lengthBlock f n))) (Meet number) Apart)
+    cond (eqb (withLength s m t n met) none) Same
+    (cond (equal (compression f true s (lengthBlock f m)) (compression f true t (lengthBlock f n))) (Meet (withLength s m t n met)) Apart)

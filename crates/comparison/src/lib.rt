@@ -3,7 +3,7 @@ ghost use mathlib.Core.Bool.{false, true};
 ghost use mathlib.Core.List.{List, _++_};
 ghost use mathlib.Core.Path.{_≡_};
 ghost use Prim.Native.Nat.{ℕ, _+_, _-_, _*_, _/_, _≤_, _<_, _^_, min};
-ghost use lib.ListN.{length, drop};
+ghost use lib.ListN.{length, take, drop};
 ghost use Rattle.simd.specs.Basic.{small, large};
 ghost use Rattle.simd.specs.Message.{bitsOf, block, message};
 ghost use Rattle.simd.specs.Hash.{chain};
@@ -12,7 +12,7 @@ ghost use Rattle.comparison.specs.Lists.{equal};
 ghost use Rattle.comparison.specs.Pairs.{unlike as unlikePairs};
 ghost use Rattle.comparison.specs.Compared.{found};
 ghost use Rattle.comparison.specs.Answer.{messageRefusal, verdict, answer};
-ghost use Rattle.comparison.specs.Lockstep.{zeros, Passed, judged};
+ghost use Rattle.comparison.specs.Lockstep.{zeros, Turn, Passed, withLength, judged};
 
 pub enum Verdict {
     Same,
@@ -107,4 +107,120 @@ fn compress_small(state: &mut [u32; 16], block: &[u8; 64])
     ensures { λ _. ⌜ now (state .exit) ≡ compression small false (now (state .entry)) (now (block .entry)) ⌝ }
 {
     compression::absorb_small(state, block);
+}
+
+// Compresses the first blocks of a byte string.
+fn absorb_blocks_small(state: &mut [u32; 16], bytes: &[u8], count: usize)
+    requires { ⌜ 64 * count < length (now bytes) + 64 ⌝ }
+    ensures { λ _. ⌜ now (state .exit) ≡ chain small (now (state .entry)) (bitsOf (now (bytes .entry))) count ⌝ }
+{
+    let mut k = 0;
+    while k < count {
+        let x = block_small(bytes, k);
+        compress_small(state, &x);
+        k += 1;
+    }
+}
+
+// Compresses one block of each byte string, and tells whether the pairs differ.
+fn turn_small(s: &mut [u32; 16], a: &[u8], i: usize, t: &mut [u32; 16], b: &[u8], j: usize) -> bool
+    requires { ⌜ (64 * i ≤ length (now a)) × (64 * j ≤ length (now b)) ⌝ }
+    ensures { λ r. ⌜ Turn small (now (s .entry)) (bitsOf (now (a .entry))) i (now (t .entry)) (bitsOf (now (b .entry))) j (now (s .exit)) (now (t .exit)) r ⌝ }
+{
+    let x = block_small(a, i);
+    let y = block_small(b, j);
+    let differ = unlike(s, &x, t, &y);
+    compress_small(s, &x);
+    compress_small(t, &y);
+    differ
+}
+
+// Compresses the last n blocks of two byte strings of c and d blocks side by side. The result is the smallest number, counted back, at
+// which the pairs differ, and n + 1 where there is none.
+fn lockstep_small(
+    s: &mut [u32; 16],
+    a: &[u8],
+    c: usize,
+    t: &mut [u32; 16],
+    b: &[u8],
+    d: usize,
+    n: usize,
+) -> usize
+    requires { ⌜ (64 * c < length (now a) + 64) × (64 * d < length (now b) + 64) × (n ≤ c) × (n ≤ d) ⌝ }
+    ensures { λ r. ⌜ ((from from′ : List ℕ) → now (s .entry) ≡ chain small from (bitsOf (now (a .entry))) (c - n) → now (t .entry) ≡ chain small from′ (bitsOf (now (b .entry))) (d - n) → Passed small from (now (a .entry)) c from′ (now (b .entry)) d n n (now (s .exit)) (now (t .exit)) r) ⌝ }
+{
+    let mut met = n + 1;
+    let mut k = 0;
+    while k < n {
+        let i = c - n + k;
+        let j = d - n + k;
+        if turn_small(s, a, i, t, b, j) {
+            met = n - k;
+        }
+        k += 1;
+    }
+    met
+}
+
+// The number with the length blocks, which have number 0, taken in.
+fn with_length(s: &[u32], m: u64, t: &[u32], n: u64, met: usize) -> usize
+    ensures { λ r. ⌜ r ≡ withLength (now (s .entry)) m (now (t .entry)) n met ⌝ }
+{
+    if same_words(s, t) {
+        if m == n {
+            return met;
+        }
+    }
+    0
+}
+
+// The verdict, from the states before the length blocks.
+fn judge_small(
+    s: &mut [u32; 16],
+    m: u64,
+    t: &mut [u32; 16],
+    n: u64,
+    met: usize,
+    none: usize,
+) -> Verdict
+    ensures { λ r. ⌜ r ≡ judged small (now (s .entry)) m (now (t .entry)) n met none ⌝ }
+{
+    let number = with_length(s, m, t, n, met);
+    compression::finish_small(s, m);
+    compression::finish_small(t, n);
+    if number == none {
+        return Verdict::Same;
+    }
+    if same_words(s, t) {
+        Verdict::Meet(number as u64)
+    } else {
+        Verdict::Apart
+    }
+}
+
+// The bytes that a message uses.
+fn used_part(bytes: &[u8], count: u64) -> &[u8]
+    requires { ⌜ messageRefusal (now bytes) count ≡ 0 ⌝ }
+    ensures { λ r. ⌜ (now r ≡ take ((count + 7) / 8) (now (bytes .entry))) × (length (now r) ≡ (count + 7) / 8) ⌝ }
+{
+    let end = ((count + 7) / 8) as usize;
+    &bytes[..end]
+}
+
+// The comparison of two messages that break no rule.
+fn compare_small(start: [u32; 16], a: &[u8], m: u64, b: &[u8], n: u64) -> Verdict
+    requires { ⌜ (messageRefusal (now a) m ≡ 0) × (messageRefusal (now b) n ≡ 0) ⌝ }
+    ensures { λ r. ⌜ r ≡ verdict 0 (found small start (message (now (a .entry)) m) (message (now (b .entry)) n)) ⌝ }
+{
+    let x = used_part(a, m);
+    let y = used_part(b, n);
+    let c = (x.len() + 63) / 64;
+    let d = (y.len() + 63) / 64;
+    let k = smaller(c, d);
+    let mut s = start;
+    let mut t = start;
+    absorb_blocks_small(&mut s, x, c - k);
+    absorb_blocks_small(&mut t, y, d - k);
+    let met = lockstep_small(&mut s, x, c, &mut t, y, d, k);
+    judge_small(&mut s, m, &mut t, n, met, k + 1)
 }
