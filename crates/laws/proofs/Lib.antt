@@ -1,2 +1,4 @@
 pub mod Table
 pub mod Sum
+pub mod Bits
+pub mod Chain
