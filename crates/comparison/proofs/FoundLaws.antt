@@ -1,5 +1,5 @@
 -- What `found` and `verdict` say of the two messages.
-use mathlib.Core.Bool.{Bool, true, false, cond, not}
+use mathlib.Core.Bool.{Bool, true, false, cond}
 use mathlib.Core.List.{List}
 use mathlib.Core.Logic.{_↔_}
 use mathlib.Core.Path.{_≡_, refl, sym, ap, _∙_, subst}
@@ -7,8 +7,6 @@ use Prim.Native.Nat.{ℕ, zero, suc, _+_, _<_, _≤_, min}
 use native.Mathlib.Nat.{zero-add}
 use native.Mathlib.Decide.{decLt}
 use native.Mathlib.Omega.{arith}
-use borrow.Author.Tests.{eqb-true, not-false}
-use lib.Dec.{eqb, eqb·suc-zero}
 use lib.ListN.{length}
 use Rattle.simd.specs.Basic.{Family, isWidth}
 use Rattle.simd.specs.Hash.{final, compressions}
@@ -16,7 +14,8 @@ use Rattle.simd.specs.Message.{messageBlocks}
 use Rattle.comparison.specs.Lists.{equal, least}
 use Rattle.comparison.specs.Pairs.{stateAt, blockAt, outOf, differAt}
 use Rattle.comparison.specs.Compared.{Found, same, apart, meet, common, found}
-use Rattle.comparison.specs.Answer.{messageRefusal, refusal, verdict}
+use Rattle.comparison.specs.Answer.{first, refusal, verdict}
+use Rattle.comparison.specs.Refusal.{messageRefusal}
 use Rattle.comparison.specs.declared.Verdict.{Verdict}
 use Rattle.comparison.specs.declared.Verdict.the-variants.{Same, Apart, Meet, Refused}
 use Rattle.comparison.proofs.ListLaws.{equal-true, same-equal, equal-false, not-equal, Least, least-is, least-found, least-none}
@@ -149,15 +148,16 @@ verdict-meet apart k e = absurd (let z : _≡_ {A = ℕ} 0 1 = cc in omega arith
 verdict-meet (meet j) k e = ap meet (cc)
 
 -- Where nothing is refused, neither message is.
-pick-zero : (r s : ℕ) → cond (not (eqb r 0)) r s ≡ 0 → (r ≡ 0) × (s ≡ 0)
-pick-zero zero s e = (refl, e)
-pick-zero (suc r) s e = absurd (omega (arith, subst (λ (t : Bool). cond (not t) (suc r) s ≡ 0) (eqb·suc-zero r) e))
+first-zero : (r s : ℕ) → first r s ≡ 0 → (r ≡ 0) × (s ≡ 0)
+unfolding first
+first-zero zero s e = (refl, e)
+first-zero (suc r) s e = absurd (omega arith)
 
-unrefused-width : (t : Bool) (s : ℕ) → cond (not t) 1 s ≡ 0 → s ≡ 0
+unrefused-width : (t : Bool) (s : ℕ) → cond t s 1 ≡ 0 → s ≡ 0
 unrefused-width true s e = e
 unrefused-width false s e = absurd (omega arith)
 
 pub unrefused : (width : ℕ) (a : List ℕ) (na : ℕ) (b : List ℕ) (nb : ℕ) → refusal width a na b nb ≡ 0
     → (messageRefusal a na ≡ 0) × (messageRefusal b nb ≡ 0)
 unfolding refusal
-unrefused width a na b nb e = pick-zero (messageRefusal a na) (messageRefusal b nb) (unrefused-width (isWidth width) _ e)
+unrefused width a na b nb e = first-zero (messageRefusal a na) (messageRefusal b nb) (unrefused-width (isWidth width) _ e)

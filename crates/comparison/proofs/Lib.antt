@@ -1,5 +1,6 @@
 pub mod ListLaws
 pub mod MessageLaws
+pub mod RefusalLaws
 pub mod ByteLaws
 pub mod PairLaws
 pub mod FoundLaws

@@ -12,7 +12,7 @@ use lib.ListN.{length, getD}
 use lib.Seq.{ext-getD}
 use Rattle.comparison.specs.Lists.{equal, least}
 
-true≢false : true ≡ false → ⊥
+pub true≢false : true ≡ false → ⊥
 true≢false e = let z : _≡_ {A = ℕ} 0 1 = cc in omega arith
 
 pub equal-refl : (l : List ℕ) → equal l l ≡ true
@@ -20,7 +20,7 @@ unfolding equal
 equal-refl [] = refl
 equal-refl (x ∷ xs) = rw (eq-eqb x x refl) (equal-refl xs)
 
-both : (p q : Bool) → p && q ≡ true → (p ≡ true) × (q ≡ true)
+pub both : (p q : Bool) → p && q ≡ true → (p ≡ true) × (q ≡ true)
 both true q e = (refl, e)
 both false q e = absurd (true≢false (sym e))
 
@@ -41,7 +41,7 @@ same-equal a b e = subst (λ (l : List ℕ). equal a l ≡ true) e (equal-refl a
 pub equal-false : (a b : List ℕ) → equal a b ≡ false → a ≡ b → ⊥
 equal-false a b n e = true≢false (sym (same-equal a b e) ∙ n)
 
-is-false : (t : Bool) → (t ≡ true → ⊥) → t ≡ false
+pub is-false : (t : Bool) → (t ≡ true → ⊥) → t ≡ false
 is-false true h = absurd (h refl)
 is-false false h = refl
 

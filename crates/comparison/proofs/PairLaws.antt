@@ -51,7 +51,7 @@ like s b s′ b′ e h = rw (← e, ← h, equal-refl s, equal-refl b)
 module _ (f : Family) (from a b : List ℕ) (wa : IsMessage a) (wb : IsMessage b) where
   pub all-alike : ((n : ℕ) → n < common f a b → differAt f from a b n ≡ false) → a ≡ b
   unfolding common compressions differAt blockAt
-  all-alike h = message-ext f a b wa wb lengths blocks
+  all-alike h = message-ext f a b (wa .bits) (wb .bits) lengths blocks
     where
       pairs : (n : ℕ) → n < common f a b → blockAt f a n ≡ blockAt f b n
       pairs n low = alike (stateAt f from a n) (blockAt f a n) (stateAt f from b n) (blockAt f b n) (h n low) .1

@@ -20,7 +20,8 @@ use Rattle.comparison.specs.Answer.{refusal, verdict, answer}
 use Rattle.comparison.specs.declared.Verdict.{Verdict}
 use Rattle.comparison.specs.declared.Verdict.the-variants.{Same, Apart, Meet, Refused}
 use Rattle.comparison.proofs.MessageLaws.{IsMessage}
-use Rattle.comparison.proofs.ByteLaws.{accepted, is-message, length-message, Accepted}
+use Rattle.comparison.proofs.ByteLaws.{is-message, length-message}
+use Rattle.comparison.proofs.RefusalLaws.{Accepted, accepted}
 use Rattle.comparison.proofs.FoundLaws as laws
 
 -- Lengths and bits are equal.
@@ -66,11 +67,11 @@ module _ (width : ℕ) (a : List ℕ) (na : ℕ) (b : List ℕ) (nb : ℕ) (rule
   same-message : SameBits a na b nb ↔ (x ≡ y)
   same-message = (
     λ s.
-        ext-getD 0 x y (length-message a na (first .fits) ∙ s .lengths ∙ sym (length-message b nb (second .fits)))
-        (λ i low. s .bits i (omega (arith, length-message a na (first .fits)))),
+        ext-getD 0 x y (length-message a na first ∙ s .lengths ∙ sym (length-message b nb second))
+        (λ i low. s .bits i (omega (arith, length-message a na first))),
     λ e.
         record {
-          lengths = sym (length-message a na (first .fits)) ∙ ap length e ∙ length-message b nb (second .fits);
+          lengths = sym (length-message a na first) ∙ ap length e ∙ length-message b nb second;
           bits = λ i low. ap (λ (m : List ℕ). getD m i 0) e;
         },
   )

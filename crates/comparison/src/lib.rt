@@ -11,7 +11,8 @@ ghost use Rattle.simd.specs.Steps.{compression};
 ghost use Rattle.comparison.specs.Lists.{equal};
 ghost use Rattle.comparison.specs.Pairs.{unlike as unlikePairs};
 ghost use Rattle.comparison.specs.Compared.{found};
-ghost use Rattle.comparison.specs.Answer.{messageRefusal, verdict, answer};
+ghost use Rattle.comparison.specs.Answer.{verdict, answer};
+ghost use Rattle.comparison.specs.Refusal.{clear, messageRefusal};
 ghost use Rattle.comparison.specs.Lockstep.{zeros, Turn, Passed, withLength, judged};
 
 pub enum Verdict {

@@ -1,7 +1,8 @@
 use mathlib.Core.Path.{_∙_}
 use borrow.Author.Needs.{needs}
 use Rattle.simd.specs.Basic.{small}
-use Rattle.comparison.proofs.ByteLaws.{accepted, used-blocks}
+use Rattle.comparison.proofs.ByteLaws.{used-blocks}
+use Rattle.comparison.proofs.RefusalLaws.{accepted}
 use Rattle.comparison.proofs.LockstepLaws.{decided}
 use Rattle.comparison.proofs.compare_small.Statement.{statement}
 use Rattle.comparison.proofs.compare_small.Tie as tie

@@ -2,7 +2,7 @@ use mathlib.Core.Path.{refl}
 use native.Mathlib.Omega.{arith}
 use denote.Ref.{now}
 use lib.ListN.{length-take}
-use Rattle.comparison.proofs.ByteLaws.{accepted, used}
+use Rattle.comparison.proofs.RefusalLaws.{accepted, used}
 use Rattle.comparison.proofs.used_part.Statement.{statement}
 use Rattle.comparison.proofs.used_part.Tie as tie
 
