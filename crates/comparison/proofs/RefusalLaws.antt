@@ -4,12 +4,12 @@ use mathlib.Core.List.{List, [], _∷_}
 use mathlib.Core.Path.{_≡_, refl, sym, ap, _∙_, subst}
 use Prim.Native.Nat.{ℕ, zero, suc, _+_, _*_, _-_, _/_, _%_, _^_, _<_, _≤_}
 use native.Mathlib.Decide.{decLt, ℕ-discrete}
-use native.Mathlib.Nat.{zero-div, zero-mul, mod-one}
+use native.Mathlib.Nat.{zero-div, zero-mul, one-mul, mod-one}
 use native.Mathlib.Omega.{arith}
 use borrow.Author.Tests.{leb-true, le-leb, lt-leb, eqb-true, eq-eqb, ne-eqb}
 use lib.Dec.{leb, eqb}
 use lib.ListN.{length, getD, take, drop, length-take, drop-of-length-le, List·getD-eq-default}
-use lib.Pow.{field, mod-mod-pow, mod-pow-add}
+use lib.Pow.{field, mod-mod-pow, mod-pow-add, shl-exact}
 use lib.Seq.{getD-take, getD-drop}
 use Rattle.simd.specs.Message.{bitsOf}
 use Rattle.laws.proofs.Bits.{length-bitsOf, getD-bitsOf}
@@ -127,3 +127,27 @@ module _ (bytes : List ℕ) (count : ℕ) (fits : count ≤ 8 * length bytes) wh
       | yes z ↦ eq-eqb _ 0 z ∙ sym (all-zero _ (bits-clear z))
       | no h ↦ ne-eqb _ 0 h ∙ sym (is-false _ (λ t. h (clear-bits (zero-at _ t))))
     ]
+
+-- The unit of the last byte's bits past the count.
+pub unit-is : (r : ℕ) → r < 32 → 1 * 2 ^ r % 2 ^ 32 ≡ 2 ^ r
+unit-is r h = shl-exact 1 r 32 (omega arith) (omega arith) ∙ one-mul (2 ^ r)
+
+-- The exits of the refusal.
+module _ (bytes : List ℕ) (count : ℕ) where
+  pub refused-count : 8 * length bytes < count → 2 ≡ messageRefusal bytes count
+  unfolding messageRefusal
+  refused-count h = rw (lt-leb count (8 * length bytes) h)
+
+  module _ (fits : count ≤ 8 * length bytes) where
+    pub refused-bits : clear count (take (used count) bytes) ≡ false → 3 ≡ messageRefusal bytes count
+    unfolding messageRefusal
+    refused-bits e = rw (le-leb count (8 * length bytes) fits, e)
+
+    module _ (zeros : clear count (take (used count) bytes) ≡ true) where
+      pub refused-length : limit < count → 4 ≡ messageRefusal bytes count
+      unfolding messageRefusal
+      refused-length h = rw (le-leb count (8 * length bytes) fits, zeros, lt-leb count limit h)
+
+      pub not-refused : count ≤ limit → 0 ≡ messageRefusal bytes count
+      unfolding messageRefusal
+      not-refused h = rw (le-leb count (8 * length bytes) fits, zeros, le-leb count limit h)

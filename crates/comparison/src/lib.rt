@@ -225,3 +225,40 @@ fn compare_small(start: [u32; 16], a: &[u8], m: u64, b: &[u8], n: u64) -> Verdic
     let met = lockstep_small(&mut s, x, c, &mut t, y, d, k);
     judge_small(&mut s, m, &mut t, n, met, k + 1)
 }
+
+// Whether no bit is set past the count in the last byte used.
+fn is_clear(bytes: &[u8], count: u64) -> bool
+    requires { ⌜ count ≤ 8 * length (now bytes) ⌝ }
+    ensures { λ r. ⌜ r ≡ clear count (take ((count + 7) / 8) (now (bytes .entry))) ⌝ }
+{
+    let rest = count % 8;
+    if rest == 0 {
+        return true;
+    }
+    let at = (count / 8) as usize;
+    let unit = 1u32 << (8 - rest);
+    widened(bytes[at]) % unit == 0
+}
+
+fn widened(x: u8) -> u32
+    ensures { λ r. ⌜ r ≡ x ⌝ }
+{
+    x as u32
+}
+
+// The refusal of a message, 0 where it breaks no rule.
+fn refusal_of(bytes: &[u8], count: u64) -> u8
+    ensures { λ r. ⌜ r ≡ messageRefusal (now (bytes .entry)) count ⌝ }
+{
+    let used = count / 8 + (count % 8 + 7) / 8;
+    if (bytes.len() as u64) < used {
+        return 2;
+    }
+    if !is_clear(bytes, count) {
+        return 3;
+    }
+    if 4294967295 < count {
+        return 4;
+    }
+    0
+}
