@@ -6,4 +6,5 @@ pub mod PairLaws
 pub mod FoundLaws
 pub mod BlockLaws
 pub mod LockstepLaws
+pub mod AnswerLaws
 pub mod Theorems
