@@ -28,6 +28,17 @@ use Rattle.comparison.proofs.RefusalLaws.{Accepted, used}
 use Rattle.comparison.proofs.PairLaws.{none-differ}
 use Rattle.comparison.proofs.FoundLaws.{number-found}
 
+-- One turn, from what was compressed.
+pub turn-of : (f : Family) (a : List ℕ) (i : ℕ) (b : List ℕ) (j : ℕ) {s x t y s′ t′ : List ℕ} {r : Bool}
+    → x ≡ block f a i → y ≡ block f b j → s′ ≡ compression f false s x → t′ ≡ compression f false t y → r ≡ unlike s x t y
+    → Turn f s a i t b j s′ t′ r
+turn-of f a i b j {s} {x} {t} {y} ex ey first second differ =
+    record {
+      first = first ∙ ap (compression f false s) ex;
+      second = second ∙ ap (compression f false t) ey;
+      differ = differ ∙ (λ k. unlike s (ex k) t (ey k));
+    }
+
 module _ (f : Family) (from a : List ℕ) (c : ℕ) (from′ b : List ℕ) (d n : ℕ) where
   pub passed-none : (s t : List ℕ) → s ≡ chain f from (bitsOf a) (c - n) → t ≡ chain f from′ (bitsOf b) (d - n)
       → Passed f from a c from′ b d n 0 s t (n + 1)

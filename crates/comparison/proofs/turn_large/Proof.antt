@@ -1,4 +1,6 @@
 use borrow.Author.Needs.{needs}
+use Rattle.simd.specs.Basic.{large}
+use Rattle.comparison.proofs.LockstepLaws.{turn-of}
 use Rattle.comparison.proofs.turn_large.Statement.{statement}
 use Rattle.comparison.proofs.turn_large.Tie as tie
 
@@ -24,7 +26,10 @@ compress-large-requires-2 : tie.Need-compress-large-requires-2
 compress-large-requires-2 c κs = search needs
 
 returns : tie.Need-returns
-returns c = record { first = cc; second = cc; differ = cc }
+returns c =
+    let second = c .before .before .before .before .before .before .before .before .before .before .before .before .before in
+    turn-of large _ _ _ _ (second .before .block-large .ensures) (second .block-large2 .ensures)
+    (c .before .before .before .compress-large .ensures) (c .compress-large2 .ensures) (c .before .before .before .before .before .before .unlike .ensures)
 
 pub turn-large-spec : {M : Type 1} → statement M
 turn-large-spec =

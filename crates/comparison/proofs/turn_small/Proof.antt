@@ -1,4 +1,6 @@
 use borrow.Author.Needs.{needs}
+use Rattle.simd.specs.Basic.{small}
+use Rattle.comparison.proofs.LockstepLaws.{turn-of}
 use Rattle.comparison.proofs.turn_small.Statement.{statement}
 use Rattle.comparison.proofs.turn_small.Tie as tie
 
@@ -24,7 +26,10 @@ compress-small-requires-2 : tie.Need-compress-small-requires-2
 compress-small-requires-2 c κs = search needs
 
 returns : tie.Need-returns
-returns c = record { first = cc; second = cc; differ = cc }
+returns c =
+    let second = c .before .before .before .before .before .before .before .before .before .before .before .before .before in
+    turn-of small _ _ _ _ (second .before .block-small .ensures) (second .block-small2 .ensures)
+    (c .before .before .before .compress-small .ensures) (c .compress-small2 .ensures) (c .before .before .before .before .before .before .unlike .ensures)
 
 pub turn-small-spec : {M : Type 1} → statement M
 turn-small-spec =
