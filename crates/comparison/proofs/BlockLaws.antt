@@ -1,14 +1,14 @@
 -- Laws of the blocks that the code makes and compresses.
 use mathlib.Core.Bool.{false}
 use mathlib.Core.List.{List, _++_}
-use mathlib.Core.Path.{_≡_, refl, sym, ap, _∙_, subst}
-use Prim.Native.Nat.{ℕ, zero, suc, _+_, _*_, _-_, _/_, _<_, _≤_, min}
+use mathlib.Core.Path.{_≡_, sym, ap, _∙_}
+use Prim.Native.Nat.{ℕ, _+_, _*_, _-_, _/_, _<_, _≤_, min}
 use native.Mathlib.Decide.{decLt}
 use native.Mathlib.Numerals.{add-one}
 use native.Mathlib.Omega.{arith}
 use lib.ListN.{length, getD, take, drop, length-append, length-take, length-drop, length-replicate, getD-replicate, List·getD-append, List·getD-eq-default}
 use lib.Seq.{take-all, getD-take, getD-drop, getD-append-add}
-use Rattle.simd.specs.Basic.{Family, small, large, rows, blockBytes, table}
+use Rattle.simd.specs.Basic.{Family, small, large, blockBytes, table}
 use Rattle.simd.specs.Message.{bitsOf, block}
 use Rattle.simd.specs.Hash.{chain}
 use Rattle.simd.specs.Steps.{compression}

@@ -1,7 +1,7 @@
 -- Laws of the message that a byte string and a count of bits stand for, and of the blocks of a byte string.
-use mathlib.Core.List.{List, [], _∷_}
-use mathlib.Core.Path.{_≡_, refl, sym, ap, _∙_}
-use Prim.Native.Nat.{ℕ, zero, suc, _+_, _*_, _-_, _/_, _%_, _^_, _<_, _≤_}
+use mathlib.Core.List.{List}
+use mathlib.Core.Path.{_≡_, sym, ap, _∙_}
+use Prim.Native.Nat.{ℕ, _+_, _*_, _-_, _/_, _%_, _^_, _<_}
 use native.Mathlib.Decide.{decLt}
 use native.Mathlib.Omega.{arith}
 use lib.ListN.{length, getD, take, length-take}
@@ -9,7 +9,7 @@ use lib.Seq.{getD-take}
 use Rattle.simd.specs.Basic.{Family, small, large, blockBytes, table}
 use Rattle.simd.specs.Message.{bitsOf, message, block, messageBlocks}
 use Rattle.simd.specs.Hash.{chain}
-use Rattle.laws.proofs.Bits.{length-bitsOf, getD-bitsOf, bits-bitsOf, bits-take, getD-take-past, byte-ext, byte-bitsOf}
+use Rattle.laws.proofs.Bits.{length-bitsOf, bits-bitsOf, bits-take, getD-take-past, byte-ext, byte-bitsOf}
 use Rattle.laws.proofs.Chain.{chain-ext}
 use Rattle.laws.proofs.Table.{table-ext}
 use Rattle.comparison.proofs.MessageLaws.{IsMessage}

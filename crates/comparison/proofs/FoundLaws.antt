@@ -2,25 +2,21 @@
 use mathlib.Core.Bool.{Bool, true, false, cond}
 use mathlib.Core.List.{List}
 use mathlib.Core.Logic.{_↔_}
-use mathlib.Core.Path.{_≡_, refl, sym, ap, _∙_, subst}
-use Prim.Native.Nat.{ℕ, zero, suc, _+_, _<_, _≤_, min}
-use native.Mathlib.Nat.{zero-add}
+use mathlib.Core.Path.{_≡_, refl, sym, ap, _∙_}
+use Prim.Native.Nat.{ℕ, zero, suc, _<_}
 use native.Mathlib.Decide.{decLt}
 use native.Mathlib.Omega.{arith}
-use lib.ListN.{length}
 use Rattle.simd.specs.Basic.{Family, isWidth}
 use Rattle.simd.specs.Hash.{final, compressions}
-use Rattle.simd.specs.Message.{messageBlocks}
 use Rattle.comparison.specs.Lists.{equal, least}
 use Rattle.comparison.specs.Pairs.{stateAt, blockAt, outOf, differAt}
 use Rattle.comparison.specs.Compared.{Found, same, apart, meet, common, found}
 use Rattle.comparison.specs.Answer.{first, refusal, verdict}
 use Rattle.comparison.specs.Refusal.{messageRefusal}
-use Rattle.comparison.specs.declared.Verdict.{Verdict}
-use Rattle.comparison.specs.declared.Verdict.the-variants.{Same, Apart, Meet, Refused}
-use Rattle.comparison.proofs.ListLaws.{equal-true, same-equal, equal-false, not-equal, Least, least-is, least-found, least-none}
+use Rattle.comparison.specs.declared.Verdict.the-variants.{Same, Apart, Meet}
+use Rattle.comparison.proofs.ListLaws.{equal-true, same-equal, equal-false, not-equal, least-is}
 use Rattle.comparison.proofs.MessageLaws.{IsMessage}
-use Rattle.comparison.proofs.PairLaws.{alike, like, all-alike, none-differ, out-of-message, out-of-length}
+use Rattle.comparison.proofs.PairLaws.{alike, like, all-alike, out-of-message, out-of-length}
 
 -- The pairs of two messages at a number are equal.
 pub record SamePair (f : Family) (from a b : List ℕ) (n : ℕ) : Type 0 where

@@ -4,10 +4,10 @@ use mathlib.Core.List.{List}
 use mathlib.Core.Path.{_≡_, refl, sym, ap, _∙_, subst}
 use Prim.Native.Nat.{ℕ, zero, suc, _+_, _-_, _^_, _<_, _≤_, min}
 use native.Mathlib.Nat.{add-zero}
-use native.Mathlib.Decide.{ℕ-discrete, decLt}
+use native.Mathlib.Decide.{ℕ-discrete}
 use native.Mathlib.Numerals.{add-one}
 use native.Mathlib.Omega.{arith}
-use borrow.Author.Tests.{eq-eqb, ne-eqb, eqb-true}
+use borrow.Author.Tests.{eq-eqb, ne-eqb}
 use lib.Dec.{eqb}
 use lib.ListN.{length, take}
 use Rattle.simd.specs.Basic.{Family}
@@ -16,13 +16,12 @@ use Rattle.simd.specs.Hash.{chain, final, compressions}
 use Rattle.simd.specs.Steps.{compression}
 use Rattle.comparison.specs.Lists.{equal, least}
 use Rattle.comparison.specs.Pairs.{unlike, stateAt, blockAt, differAt}
-use Rattle.comparison.specs.Compared.{Found, same, apart, meet, common, found}
+use Rattle.comparison.specs.Compared.{same, apart, meet, common, found}
 use Rattle.comparison.specs.Answer.{verdict}
 use Rattle.comparison.specs.Lockstep.{Turn, Passed, unlikeAt, withLength, judged}
-use Rattle.comparison.specs.declared.Verdict.{Verdict}
 use Rattle.comparison.specs.declared.Verdict.the-variants.{Same, Apart, Meet}
-use Rattle.comparison.proofs.ListLaws.{equal-true, equal-false, same-equal, not-equal, decide, least-ext, least-none}
-use Rattle.comparison.proofs.MessageLaws.{IsMessage, length-ext}
+use Rattle.comparison.proofs.ListLaws.{same-equal, not-equal, decide, least-ext, least-none}
+use Rattle.comparison.proofs.MessageLaws.{length-ext}
 use Rattle.comparison.proofs.ByteLaws.{length-message, is-message, same-bits, same-blocks, same-chain}
 use Rattle.comparison.proofs.RefusalLaws.{Accepted, used}
 use Rattle.comparison.proofs.PairLaws.{none-differ}

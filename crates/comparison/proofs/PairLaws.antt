@@ -1,21 +1,19 @@
 -- Laws of the pairs of a message.
 use mathlib.Core.Bool.{Bool, true, false, not, _&&_}
 use mathlib.Core.List.{List}
-use mathlib.Core.Path.{_≡_, refl, sym, ap, _∙_, subst}
-use Prim.Native.Nat.{ℕ, zero, suc, _+_, _-_, _<_, _≤_, min}
-use native.Mathlib.Nat.{add-comm}
-use native.Mathlib.Numerals.{add-one}
+use mathlib.Core.Path.{_≡_, refl, sym, ap, _∙_}
+use Prim.Native.Nat.{ℕ, suc, _-_, _<_}
 use native.Mathlib.Omega.{arith}
-use lib.Dec.{eqb, eqb·suc-zero}
+use lib.Dec.{eqb·suc-zero}
 use lib.ListN.{length}
 use Rattle.simd.specs.Basic.{Family}
 use Rattle.simd.specs.Message.{block, messageBlocks, lengthBlock}
 use Rattle.simd.specs.Steps.{compression}
 use Rattle.simd.specs.Hash.{chain, final, compressions}
-use Rattle.comparison.specs.Lists.{equal, least}
+use Rattle.comparison.specs.Lists.{equal}
 use Rattle.comparison.specs.Pairs.{stateAt, blockAt, outOf, unlike, differAt}
 use Rattle.comparison.specs.Compared.{common}
-use Rattle.comparison.proofs.ListLaws.{equal-true, equal-refl, least-is}
+use Rattle.comparison.proofs.ListLaws.{equal-true, equal-refl}
 use Rattle.comparison.proofs.MessageLaws.{IsMessage, message-ext, length-ext}
 
 -- The state that comes out of a message block goes into the next block; the one that comes out of the length block is the final state.

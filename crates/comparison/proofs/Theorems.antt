@@ -2,8 +2,8 @@
 -- definition that the contract of `compare` cites.
 use mathlib.Core.List.{List}
 use mathlib.Core.Logic.{_↔_, _⊎_, inl, inr}
-use mathlib.Core.Path.{_≡_, refl, sym, ap, _∙_, subst}
-use Prim.Native.Nat.{ℕ, zero, suc, _<_, _≤_, min}
+use mathlib.Core.Path.{_≡_, refl, sym, ap, _∙_}
+use Prim.Native.Nat.{ℕ, _<_, _≤_}
 use native.Mathlib.Decide.{decLt}
 use native.Mathlib.Omega.{arith}
 use lib.Dec.{eqb}
@@ -13,13 +13,11 @@ use Rattle.simd.specs.Basic.{Family, familyOf}
 use Rattle.simd.specs.Constants.{start}
 use Rattle.simd.specs.Message.{message}
 use Rattle.simd.specs.Steps.{compression}
-use Rattle.simd.specs.Hash.{final, finalState, compressions}
+use Rattle.simd.specs.Hash.{finalState, compressions}
 use Rattle.comparison.specs.Pairs.{stateAt, blockAt, outOf}
 use Rattle.comparison.specs.Compared.{Found, same, apart, meet, common, found, compared}
 use Rattle.comparison.specs.Answer.{refusal, verdict, answer}
-use Rattle.comparison.specs.declared.Verdict.{Verdict}
-use Rattle.comparison.specs.declared.Verdict.the-variants.{Same, Apart, Meet, Refused}
-use Rattle.comparison.proofs.MessageLaws.{IsMessage}
+use Rattle.comparison.specs.declared.Verdict.the-variants.{Same, Apart, Meet}
 use Rattle.comparison.proofs.ByteLaws.{is-message, length-message}
 use Rattle.comparison.proofs.RefusalLaws.{Accepted, accepted}
 use Rattle.comparison.proofs.FoundLaws as laws

@@ -2,7 +2,7 @@
 use mathlib.Core.Bool.{Bool, false, true, cond, _&&_}
 use mathlib.Core.List.{List}
 use mathlib.Core.Path.{_≡_}
-use Prim.Native.Nat.{ℕ, zero, suc, _+_, _-_}
+use Prim.Native.Nat.{ℕ, suc, _+_, _-_}
 use lib.Dec.{eqb}
 use lib.ListN.{replicate}
 use Rattle.simd.specs.Basic.{Family}
@@ -33,6 +33,12 @@ pub record Passed (f : Family) (from a : List ℕ) (c : ℕ) (from′ b : List �
   pub first : s ≡ chain f from (bitsOf a) (c - n + k)
   pub second : t ≡ chain f from′ (bitsOf b) (d - n + k)
   pub number : met ≡ least (unlikeAt f from a c from′ b d) k (suc n - k)
+
+-- The same of two states from which k of the last n blocks of both are compressed, whatever starting states led to them.
+abbrev pub SideBySide : Family → List ℕ → List ℕ → ℕ → List ℕ → List ℕ → ℕ → ℕ → ℕ → List ℕ → List ℕ → ℕ → Type 0
+SideBySide f s a c t b d n k s′ t′ met =
+    (from from′ : List ℕ) → s ≡ chain f from (bitsOf a) (c - n) → t ≡ chain f from′ (bitsOf b) (d - n)
+    → Passed f from a c from′ b d n k s′ t′ met
 
 -- The length blocks have number 0: they differ where the lengths do, and the states after them are the final ones.
 unfoldable pub withLength : List ℕ → ℕ → List ℕ → ℕ → ℕ → ℕ

@@ -1,0 +1,72 @@
+use mathlib.Core.Path.{_∙_}
+use borrow.Author.Needs.{needs}
+use Rattle.simd.specs.Basic.{large}
+use Rattle.comparison.proofs.ByteLaws.{used-blocks}
+use Rattle.comparison.proofs.RefusalLaws.{accepted}
+use Rattle.comparison.proofs.LockstepLaws.{decided}
+use Rattle.comparison.proofs.large.compare.Statement.{statement}
+use Rattle.comparison.proofs.large.compare.Tie as tie
+
+used-part-requires : tie.Need-used-part-requires
+used-part-requires c κs = search needs
+
+used-part-requires-2 : tie.Need-used-part-requires-2
+used-part-requires-2 c κs = search needs
+
+add-c : tie.Need-add-c
+add-c c = search needs
+
+add-d : tie.Need-add-d
+add-d c = search needs
+
+smaller-requires : tie.Need-smaller-requires
+smaller-requires c κs = search needs
+
+sub-absorb-blocks : tie.Need-sub-absorb-blocks
+sub-absorb-blocks c = search needs
+
+absorb-blocks-requires : tie.Need-absorb-blocks-requires
+absorb-blocks-requires c κs = search needs
+
+sub-absorb-blocks-2 : tie.Need-sub-absorb-blocks-2
+sub-absorb-blocks-2 c = search needs
+
+absorb-blocks-requires-2 : tie.Need-absorb-blocks-requires-2
+absorb-blocks-requires-2 c κs = search needs
+
+lockstep-requires : tie.Need-lockstep-requires
+lockstep-requires c κs = search needs
+
+add-judge : tie.Need-add-judge
+add-judge c = search needs
+
+judge-requires : tie.Need-judge-requires
+judge-requires c κs = search needs
+
+returns : tie.Need-returns
+returns c =
+    let start = c .before .before .before .before .before .before .before .before .before .before .before .before .before .before .before in
+    let first = c .before .before .before .before .before .before .before .before .before .before .before .before .used-part .ensures in
+    let second = c .before .before .before .before .before .before .before .before .before .before .before .used-part2 .ensures in
+    let passed = c .before .before .before .lockstep .ensures _ _ (c .before .before .before .before .before .before .before .before .absorb-blocks .ensures) (c .before .before .before .before .before .before .absorb-blocks2 .ensures) in
+    c .judge .ensures
+    ∙ decided large _ _ _ _ _ (accepted _ _ (start .pre .0)) (accepted _ _ (start .pre .1)) _ _ _ _ _ (first .0) (second .0)
+    (used-blocks large _ _ (first .1)) (used-blocks large _ _ (second .1)) (c .before .before .before .before .before .before .before .before .before .before .smaller .ensures) _ _ _ passed
+
+pub compare-spec : {M : Type 1} → statement M
+compare-spec =
+    tie.close
+    (tie.spec
+    used-part-requires
+    used-part-requires-2
+    add-c
+    add-d
+    smaller-requires
+    sub-absorb-blocks
+    absorb-blocks-requires
+    sub-absorb-blocks-2
+    absorb-blocks-requires-2
+    lockstep-requires
+    add-judge
+    judge-requires
+    returns)
