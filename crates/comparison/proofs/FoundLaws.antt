@@ -7,9 +7,11 @@ use Prim.Native.Nat.{ℕ, zero, suc, _<_}
 use native.Mathlib.Decide.{decLt}
 use native.Mathlib.Omega.{arith}
 use Rattle.simd.specs.Basic.{Family, isWidth}
+use lib.Dec.{eqb, eqb·suc-zero}
+use Rattle.simd.specs.Steps.{compression}
 use Rattle.simd.specs.Hash.{final, compressions}
 use Rattle.comparison.specs.Lists.{equal, least}
-use Rattle.comparison.specs.Pairs.{stateAt, blockAt, outOf, differAt}
+use Rattle.comparison.specs.Pairs.{stateAt, blockAt, differAt}
 use Rattle.comparison.specs.Compared.{Found, same, apart, meet, common, found}
 use Rattle.comparison.specs.Answer.{first, refusal, verdict}
 use Rattle.comparison.specs.Refusal.{messageRefusal}
@@ -100,11 +102,12 @@ module _ (f : Family) (from a b : List ℕ) where
 
   -- One state comes out at the number of a meeting: the next pairs, or the final states, are equal.
   pub one-state : (k : ℕ) → k < common f a b → final f from a ≡ final f from b → ((i : ℕ) → i < k → SamePair f from a b i)
-      → outOf f from a k ≡ outOf f from b k
+      → compression f (eqb k 0) (stateAt f from a k) (blockAt f a k) ≡ compression f (eqb k 0) (stateAt f from b k) (blockAt f b k)
   unfolding common compressions
   one-state zero low e below = out-of-length f from a ∙ e ∙ sym (out-of-length f from b)
   one-state (suc k) low e below =
-      out-of-message f from a k (omega arith) ∙ below k (omega arith) .states ∙ sym (out-of-message f from b k (omega arith))
+      rw (eqb·suc-zero k)
+      (out-of-message f from a k (omega arith) ∙ below k (omega arith) .states ∙ sym (out-of-message f from b k (omega arith)))
 
   pub below-meet : (k : ℕ) → found f from a b ≡ meet k → (i : ℕ) → i < k → SamePair f from a b i
   below-meet k e i low =

@@ -4,27 +4,34 @@ use mathlib.Core.List.{List}
 use mathlib.Core.Path.{_≡_, refl, sym, ap, _∙_}
 use Prim.Native.Nat.{ℕ, suc, _-_, _<_}
 use native.Mathlib.Omega.{arith}
-use lib.Dec.{eqb·suc-zero}
 use lib.ListN.{length}
 use Rattle.simd.specs.Basic.{Family}
 use Rattle.simd.specs.Message.{block, messageBlocks, lengthBlock}
 use Rattle.simd.specs.Steps.{compression}
 use Rattle.simd.specs.Hash.{chain, final, compressions}
 use Rattle.comparison.specs.Lists.{equal}
-use Rattle.comparison.specs.Pairs.{stateAt, blockAt, outOf, unlike, differAt}
+use Rattle.comparison.specs.Pairs.{stateAt, blockAt, unlike, differAt}
 use Rattle.comparison.specs.Compared.{common}
 use Rattle.comparison.proofs.ListLaws.{equal-true, equal-refl}
 use Rattle.comparison.proofs.MessageLaws.{IsMessage, message-ext, length-ext}
 
--- The state that comes out of a message block goes into the next block; the one that comes out of the length block is the final state.
-pub out-of-message : (f : Family) (from m : List ℕ) (n : ℕ) → n < messageBlocks f (length m) → outOf f from m (suc n) ≡ stateAt f from m n
-unfolding outOf stateAt blockAt chain
+-- The starting state goes into the first block, the state that comes out of a message block into the next one; and the one that comes out of
+-- the length block is the final state.
+pub first-state : (f : Family) (from m : List ℕ) → stateAt f from m (messageBlocks f (length m)) ≡ from
+unfolding stateAt chain
+first-state f from m =
+    let none : messageBlocks f (length m) - messageBlocks f (length m) ≡ 0 = omega arith in
+    ap (chain f from m) none
+
+pub out-of-message : (f : Family) (from m : List ℕ) (n : ℕ) → n < messageBlocks f (length m)
+    → compression f false (stateAt f from m (suc n)) (blockAt f m (suc n)) ≡ stateAt f from m n
+unfolding stateAt blockAt chain
 out-of-message f from m n h =
     let next : suc (messageBlocks f (length m) - suc n) ≡ messageBlocks f (length m) - n = omega arith in
-    rw (eqb·suc-zero n) (ap (chain f from m) next)
+    ap (chain f from m) next
 
-pub out-of-length : (f : Family) (from m : List ℕ) → outOf f from m 0 ≡ final f from m
-unfolding outOf stateAt blockAt final
+pub out-of-length : (f : Family) (from m : List ℕ) → compression f true (stateAt f from m 0) (blockAt f m 0) ≡ final f from m
+unfolding stateAt blockAt final
 out-of-length f from m =
     let all : messageBlocks f (length m) - 0 ≡ messageBlocks f (length m) = omega arith in
     ap (λ (k : ℕ). compression f true (chain f from m k) (lengthBlock f (length m))) all

@@ -1,9 +1,10 @@
 -- The theorems of the comparison, for every two messages that break no rule and at every width. They are about `answer`, the very
 -- definition that the contract of `compare` cites.
+use mathlib.Core.Bool.{false, true}
 use mathlib.Core.List.{List}
 use mathlib.Core.Logic.{_↔_, _⊎_, inl, inr}
 use mathlib.Core.Path.{_≡_, refl, sym, ap, _∙_}
-use Prim.Native.Nat.{ℕ, _<_, _≤_}
+use Prim.Native.Nat.{ℕ, suc, _<_, _≤_}
 use native.Mathlib.Decide.{decLt}
 use native.Mathlib.Omega.{arith}
 use lib.Dec.{eqb}
@@ -11,16 +12,37 @@ use lib.ListN.{length, getD}
 use lib.Seq.{ext-getD}
 use Rattle.simd.specs.Basic.{Family, familyOf}
 use Rattle.simd.specs.Constants.{start}
-use Rattle.simd.specs.Message.{message}
+use Rattle.simd.specs.Message.{message, messageBlocks}
 use Rattle.simd.specs.Steps.{compression}
 use Rattle.simd.specs.Hash.{finalState, compressions}
-use Rattle.comparison.specs.Pairs.{stateAt, blockAt, outOf}
+use Rattle.comparison.specs.Pairs.{stateAt, blockAt}
 use Rattle.comparison.specs.Compared.{Found, same, apart, meet, common, found, compared}
 use Rattle.comparison.specs.Answer.{refusal, verdict, answer}
 use Rattle.comparison.specs.declared.Verdict.the-variants.{Same, Apart, Meet}
 use Rattle.comparison.proofs.ByteLaws.{is-message, length-message}
 use Rattle.comparison.proofs.RefusalLaws.{Accepted, accepted}
+use Rattle.comparison.proofs.PairLaws.{first-state, out-of-message, out-of-length}
 use Rattle.comparison.proofs.FoundLaws as laws
+
+-- The pairs of a message are those of its compressions: the starting state goes into the first block, what comes out of a message block goes
+-- into the next block, and what comes out of the length block is the final state.
+pub record Chained (width : ℕ) (m : List ℕ) : Type 0 where
+  pub first : stateAt (familyOf width) (start width) m (messageBlocks (familyOf width) (length m)) ≡ start width
+  pub next :
+      (n : ℕ) → n < messageBlocks (familyOf width) (length m)
+      → compression (familyOf width) false (stateAt (familyOf width) (start width) m (suc n)) (blockAt (familyOf width) m (suc n))
+      ≡ stateAt (familyOf width) (start width) m n
+  pub last :
+      compression (familyOf width) true (stateAt (familyOf width) (start width) m 0) (blockAt (familyOf width) m 0) ≡ finalState width m
+
+pub pairs-chained : (width : ℕ) (m : List ℕ) → Chained width m
+unfolding finalState
+pairs-chained width m =
+    record {
+      first = first-state (familyOf width) (start width) m;
+      next = out-of-message (familyOf width) (start width) m;
+      last = out-of-length (familyOf width) (start width) m;
+    }
 
 -- Lengths and bits are equal.
 pub record SameBits (a : List ℕ) (na : ℕ) (b : List ℕ) (nb : ℕ) : Type 0 where
@@ -132,7 +154,7 @@ module _ (width : ℕ) (a : List ℕ) (na : ℕ) (b : List ℕ) (nb : ℕ) (rule
 
   -- At Meet k.
   pub at-meet : (k : ℕ) → answer width a na b nb ≡ Meet k → MeetAt (familyOf width) (start width) (message a na) (message b nb) k
-  unfolding common outOf
+  unfolding common
   at-meet k e =
       let met = laws.verdict-meet (found f (start width) x y) k (sym unrefused ∙ e) in
       let wx = is-message a na first in

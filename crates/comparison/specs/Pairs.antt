@@ -4,12 +4,10 @@
 use mathlib.Core.Bool.{Bool, not, _&&_}
 use mathlib.Core.List.{List}
 use Prim.Native.Nat.{ℕ, zero, suc, _-_}
-use lib.Dec.{eqb}
 use lib.ListN.{length}
 use Rattle.simd.specs.Basic.{Family}
 use Rattle.simd.specs.Message.{block, messageBlocks, lengthBlock}
 use Rattle.simd.specs.Hash.{chain}
-use Rattle.simd.specs.Steps.{compression}
 use Rattle.comparison.specs.Lists.{equal}
 
 -- The pair at number n of the message m, whose width starts from the state `from`.
@@ -19,10 +17,6 @@ stateAt f from m n = chain f from m (messageBlocks f (length m) - n)
 unfoldable pub blockAt : Family → List ℕ → ℕ → List ℕ
 blockAt f m zero = lengthBlock f (length m)
 blockAt f m (suc n) = block f m (messageBlocks f (length m) - suc n)
-
--- The state that comes out of it: the block at 0 goes into the compression of a length block, every other into that of a message block.
-unfoldable pub outOf : Family → List ℕ → List ℕ → ℕ → List ℕ
-outOf f from m n = compression f (eqb n 0) (stateAt f from m n) (blockAt f m n)
 
 -- Two pairs differ where the states or the blocks do.
 unfoldable pub unlike : List ℕ → List ℕ → List ℕ → List ℕ → Bool

@@ -7,7 +7,7 @@ ghost use Rattle.comparison.specs.Lists.{equal};
 ghost use Rattle.comparison.specs.Pairs.{unlike as unlikePairs};
 ghost use Rattle.comparison.specs.Lockstep.{withLength};
 
-// Whether two lists are equal.
+// Whether two blocks, or two states, are equal.
 pub fn same_bytes(a: &[u8], b: &[u8]) -> bool
     ensures { λ r. ⌜ r ≡ equal (now (a .entry)) (now (b .entry)) ⌝ }
 {
@@ -24,15 +24,15 @@ pub fn same_bytes(a: &[u8], b: &[u8]) -> bool
     true
 }
 
-pub fn same_words(a: &[u32], b: &[u32]) -> bool
-    ensures { λ r. ⌜ r ≡ equal (now (a .entry)) (now (b .entry)) ⌝ }
+pub fn same_words(s: &[u32], t: &[u32]) -> bool
+    ensures { λ r. ⌜ r ≡ equal (now (s .entry)) (now (t .entry)) ⌝ }
 {
-    if a.len() != b.len() {
+    if s.len() != t.len() {
         return false;
     }
     let mut i = 0;
-    while i < a.len() {
-        if a[i] != b[i] {
+    while i < s.len() {
+        if s[i] != t[i] {
             return false;
         }
         i += 1;

@@ -45,13 +45,19 @@ judge-requires c κs = search needs
 
 returns : tie.Need-returns
 returns c =
-    let start = c .before .before .before .before .before .before .before .before .before .before .before .before .before .before .before in
-    let first = c .before .before .before .before .before .before .before .before .before .before .before .before .used-part .ensures in
-    let second = c .before .before .before .before .before .before .before .before .before .before .before .used-part2 .ensures in
-    let passed = c .before .before .before .lockstep .ensures _ _ (c .before .before .before .before .before .before .before .before .absorb-blocks .ensures) (c .before .before .before .before .before .before .absorb-blocks2 .ensures) in
+    let together = c .before .before .before in
+    let second-ahead = together .before .before .before in
+    let first-ahead = second-ahead .before .before in
+    let counted = first-ahead .before .before in
+    let second = counted .before in
+    let first = second .before in
+    let start = first .before .before .before in
     c .judge .ensures
-    ∙ decided small _ _ _ _ _ (accepted _ _ (start .pre .0)) (accepted _ _ (start .pre .1)) _ _ _ _ _ (first .0) (second .0)
-    (used-blocks small _ _ (first .1)) (used-blocks small _ _ (second .1)) (c .before .before .before .before .before .before .before .before .before .before .smaller .ensures) _ _ _ passed
+    ∙ decided small _ _ _ _ _ (accepted _ _ (start .pre .0)) (accepted _ _ (start .pre .1)) _ _ _ _ _
+    (first .used-part .ensures .0) (second .used-part2 .ensures .0)
+    (used-blocks small _ _ (first .used-part .ensures .1)) (used-blocks small _ _ (second .used-part2 .ensures .1))
+    (counted .smaller .ensures) _ _ _
+    (together .lockstep .ensures _ _ (first-ahead .absorb-blocks .ensures) (second-ahead .absorb-blocks2 .ensures))
 
 pub compare-spec : {M : Type 1} → statement M
 compare-spec =
