@@ -1,4 +1,5 @@
-// The comparison at the widths of the small family.
+// The comparison at the widths of the small family. Of the first and the second message, s and t are the states, a and b the bytes, c and d
+// the numbers of message blocks, m and n the lengths in bits.
 ghost use mathlib.Core.Bool.{false};
 ghost use mathlib.Core.Path.{_≡_};
 ghost use Prim.Native.Nat.{_+_, _-_, _*_, _≤_, _<_};
@@ -71,8 +72,8 @@ fn turn(s: &mut [u32; 16], a: &[u8], i: usize, t: &mut [u32; 16], b: &[u8], j: u
     differ
 }
 
-// Compresses the last n blocks of two byte strings of c and d blocks side by side. The result is the smallest number, counted back, at
-// which the pairs differ, and n + 1 where there is none.
+// Compresses the last `common` blocks of both side by side. The result is the smallest number, counted back, at which the pairs differ, and
+// common + 1 where there is none.
 fn lockstep(
     s: &mut [u32; 16],
     a: &[u8],
@@ -80,18 +81,18 @@ fn lockstep(
     t: &mut [u32; 16],
     b: &[u8],
     d: usize,
-    n: usize,
+    common: usize,
 ) -> usize
-    requires { ⌜ (64 * c < length (now a) + 64) × (64 * d < length (now b) + 64) × (n ≤ c) × (n ≤ d) ⌝ }
-    ensures { λ r. ⌜ SideBySide small (now (s .entry)) (now (a .entry)) c (now (t .entry)) (now (b .entry)) d n n (now (s .exit)) (now (t .exit)) r ⌝ }
+    requires { ⌜ (64 * c < length (now a) + 64) × (64 * d < length (now b) + 64) × (common ≤ c) × (common ≤ d) ⌝ }
+    ensures { λ r. ⌜ SideBySide small (now (s .entry)) (now (a .entry)) c (now (t .entry)) (now (b .entry)) d common common (now (s .exit)) (now (t .exit)) r ⌝ }
 {
-    let mut met = n + 1;
+    let mut met = common + 1;
     let mut k = 0;
-    while k < n {
-        let i = c - n + k;
-        let j = d - n + k;
+    while k < common {
+        let i = c - common + k;
+        let j = d - common + k;
         if turn(s, a, i, t, b, j) {
-            met = n - k;
+            met = common - k;
         }
         k += 1;
     }
@@ -124,11 +125,11 @@ pub fn compare(start: [u32; 16], a: &[u8], m: u64, b: &[u8], n: u64) -> Verdict
     let y = used_part(b, n);
     let c = (x.len() + 63) / 64;
     let d = (y.len() + 63) / 64;
-    let k = smaller(c, d);
+    let common = smaller(c, d);
     let mut s = start;
     let mut t = start;
-    absorb_blocks(&mut s, x, c - k);
-    absorb_blocks(&mut t, y, d - k);
-    let met = lockstep(&mut s, x, c, &mut t, y, d, k);
-    judge(&mut s, m, &mut t, n, met, k + 1)
+    absorb_blocks(&mut s, x, c - common);
+    absorb_blocks(&mut t, y, d - common);
+    let met = lockstep(&mut s, x, c, &mut t, y, d, common);
+    judge(&mut s, m, &mut t, n, met, common + 1)
 }
