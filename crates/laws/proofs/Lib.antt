@@ -2,3 +2,11 @@ pub mod Table
 pub mod Sum
 pub mod Bits
 pub mod Chain
+pub mod Fill
+pub mod Append
+pub mod Field
+pub mod Below
+pub mod Regroup
+pub mod Roots
+pub mod Words
+pub mod Stores

@@ -1,0 +1,4 @@
+pub mod Bits
+pub mod Codes
+pub mod Matrix
+pub mod Distance

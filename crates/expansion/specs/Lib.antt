@@ -1,0 +1,3 @@
+-- What the contracts of this crate cite beside the definitions of SIMD.
+pub mod Call
+pub mod Output

@@ -1,0 +1,56 @@
+use mathlib.Core.List.{[]}
+use mathlib.Core.Path.{refl}
+use Prim.Native.Nat.{_-_, _≤_}
+use Rattle.laws.proofs.Fill.{Filled, filled-none, filled-more, filled-all}
+use Rattle.matrix.specs.Layers.{row}
+use Rattle.matrix.proofs.Rows.{row-four}
+use borrow.Author.Needs.{needs}
+use Rattle.matrix.proofs.rows_small.Statement.{statement}
+use Rattle.matrix.proofs.rows_small.Tie as tie
+
+abbrev Inv-loop : tie.InvT-loop
+Inv-loop words z₀ i₀ z i = (i ≤ 32) × Filled [] 32 (row 4 words) i z
+
+abbrev μ-loop : tie.MeasureT-loop
+μ-loop words z₀ i₀ z i = 32 - i
+
+loop-holds : tie.Need-loop-holds Inv-loop μ-loop
+loop-holds c = (search needs, filled-none refl)
+
+row-small-requires : tie.Need-row-small-requires Inv-loop μ-loop
+row-small-requires c κs = search needs
+
+mul-z : tie.Need-mul-z Inv-loop μ-loop
+mul-z c = search needs
+
+array-set-from-z : tie.Need-array-set-from-z Inv-loop μ-loop
+array-set-from-z c = search needs
+
+add-i : tie.Need-add-i Inv-loop μ-loop
+add-i c = search needs
+
+loop-less : tie.Need-loop-less Inv-loop μ-loop
+loop-less c = search needs
+
+loop-again : tie.Need-loop-again Inv-loop μ-loop
+loop-again c =
+    let at = c .before .before in
+    (search needs, filled-more (at .loop .inv .1) (search needs) (row-four (at .before .before .args .words .now) (at .loop .i) (c .row-small .ensures)))
+
+returns : tie.Need-returns Inv-loop μ-loop
+returns c = filled-all (c .before .loop .inv .1) (search needs)
+
+pub rows-small-spec : {M : Type 1} → statement M
+rows-small-spec =
+    tie.close
+    (tie.spec
+    Inv-loop
+    μ-loop
+    loop-holds
+    row-small-requires
+    mul-z
+    array-set-from-z
+    add-i
+    loop-less
+    loop-again
+    returns)

@@ -1,0 +1,4 @@
+pub mod Level
+pub mod Product
+pub mod Stages
+pub mod Whole
