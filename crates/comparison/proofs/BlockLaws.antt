@@ -2,26 +2,19 @@
 use mathlib.Core.Bool.{false}
 use mathlib.Core.List.{List, _++_}
 use mathlib.Core.Path.{_≡_, sym, ap, _∙_}
-use Prim.Native.Nat.{ℕ, _+_, _*_, _-_, _/_, _<_, _≤_, min}
+use Prim.Native.Nat.{ℕ, _+_, _*_, _-_, _<_, _≤_, min}
 use native.Mathlib.Decide.{decLt}
 use native.Mathlib.Numerals.{add-one}
 use native.Mathlib.Omega.{arith}
 use lib.ListN.{length, getD, take, drop, length-append, length-take, length-drop, length-replicate, getD-replicate, List·getD-append, List·getD-eq-default}
-use lib.Seq.{take-all, getD-take, getD-drop, getD-append-add}
-use Rattle.simd.specs.Basic.{Family, small, large, blockBytes, table}
+use lib.Seq.{getD-take, getD-drop, getD-append-add}
+use Rattle.simd.specs.Basic.{Family, blockBytes, table}
 use Rattle.simd.specs.Message.{bitsOf, block}
 use Rattle.simd.specs.Hash.{chain}
 use Rattle.simd.specs.Steps.{compression}
 use Rattle.laws.proofs.Table.{length-table, table-of}
-use Rattle.compression.specs.Absorbed.{absorbed}
 use Rattle.comparison.specs.Lockstep.{zeros}
 use Rattle.comparison.proofs.ByteLaws.{block-of-bytes}
-
--- One block absorbed is one compression.
-pub absorbed-one : (f : Family) (s b : List ℕ) → length b ≡ blockBytes f → absorbed f s b (length b / blockBytes f) ≡ compression f false s b
-unfolding absorbed
-absorbed-one small s b e = rw e (ap (compression small false s) (take-all 64 b (omega arith)))
-absorbed-one large s b e = rw e (ap (compression large false s) (take-all 128 b (omega arith)))
 
 -- A part of a byte string copied onto zeros: its bytes, with zeros past the end.
 abbrev padded : List ℕ → ℕ → List ℕ

@@ -2,13 +2,15 @@
 use mathlib.Core.Bool.{Bool, false, true, cond, _&&_}
 use mathlib.Core.List.{List}
 use mathlib.Core.Path.{_≡_}
-use Prim.Native.Nat.{ℕ, suc, _+_, _-_}
+use Prim.Native.Nat.{ℕ, suc, _+_, _-_, _%_}
 use lib.Dec.{eqb}
 use lib.ListN.{replicate}
-use Rattle.simd.specs.Basic.{Family}
+use Rattle.simd.specs.Basic.{Family, points, table}
+use Rattle.simd.specs.Expansion.{added as addedTo}
 use Rattle.simd.specs.Message.{bitsOf, block, lengthBlock}
 use Rattle.simd.specs.Hash.{chain}
 use Rattle.simd.specs.Steps.{compression}
+use Rattle.transform_tables.specs.Roots.{Roots}
 use Rattle.comparison.specs.Lists.{equal, least}
 use Rattle.comparison.specs.Pairs.{unlike}
 use Rattle.comparison.specs.declared.Verdict.{Verdict}
@@ -16,6 +18,11 @@ use Rattle.comparison.specs.declared.Verdict.the-variants.{Same, Apart, 
 
 unfoldable pub zeros : ℕ → List ℕ
 zeros n = replicate n 0
+
+-- The tables that the compression of a message block is lent.
+pub record Tables (f : Family) (roots added : List ℕ) : Type 0 where
+  pub rooted : Roots roots
+  pub constant : added ≡ table (points f) (λ i. addedTo f false i % 257)
 
 -- One block of each message compressed: the new states, and whether the pairs differ.
 pub record Turn (f : Family) (s a : List ℕ) (i : ℕ) (t b : List ℕ) (j : ℕ) (s′ t′ : List ℕ) (r : Bool) : Type 0 where

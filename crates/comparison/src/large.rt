@@ -7,11 +7,10 @@ ghost use lib.ListN.{length};
 ghost use Rattle.simd.specs.Basic.{large};
 ghost use Rattle.simd.specs.Message.{bitsOf, block as blockOf, message};
 ghost use Rattle.simd.specs.Hash.{chain};
-ghost use Rattle.simd.specs.Steps.{compression as compressed};
 ghost use Rattle.comparison.specs.Compared.{found};
 ghost use Rattle.comparison.specs.Refusal.{messageRefusal};
 ghost use Rattle.comparison.specs.Answer.{verdict};
-ghost use Rattle.comparison.specs.Lockstep.{zeros as zeroBytes, Turn, SideBySide, judged};
+ghost use Rattle.comparison.specs.Lockstep.{zeros as zeroBytes, Tables, Turn, SideBySide, judged};
 use crate::Verdict;
 use crate::checks::used_part;
 use crate::pairs::copy;
@@ -39,36 +38,38 @@ fn block(bytes: &[u8], k: usize) -> [u8; 128]
     block
 }
 
-fn compress(state: &mut [u32; 32], block: &[u8; 128])
-    requires { ⌜ length (now block) ≡ 128 ⌝ }
-    ensures { λ _. ⌜ now (state .exit) ≡ compressed large false (now (state .entry)) (now (block .entry)) ⌝ }
-{
-    compression::absorb_large(state, block);
-}
-
 // Compresses the first blocks of a byte string.
-fn absorb_blocks(state: &mut [u32; 32], bytes: &[u8], count: usize)
-    requires { ⌜ 128 * count < length (now bytes) + 128 ⌝ }
+fn absorb_blocks(state: &mut [u32; 32], bytes: &[u8], count: usize, roots: &[u16], added: &[u16])
+    requires { ⌜ (128 * count < length (now bytes) + 128) × Tables large (now roots) (now added) ⌝ }
     ensures { λ _. ⌜ now (state .exit) ≡ chain large (now (state .entry)) (bitsOf (now (bytes .entry))) count ⌝ }
 {
     let mut k = 0;
     while k < count {
         let x = block(bytes, k);
-        compress(state, &x);
+        compression::large::compress(state, &x, roots, added, false);
         k += 1;
     }
 }
 
 // Compresses one block of each byte string, and tells whether the pairs differ.
-fn turn(s: &mut [u32; 32], a: &[u8], i: usize, t: &mut [u32; 32], b: &[u8], j: usize) -> bool
-    requires { ⌜ (128 * i ≤ length (now a)) × (128 * j ≤ length (now b)) ⌝ }
+fn turn(
+    s: &mut [u32; 32],
+    a: &[u8],
+    i: usize,
+    t: &mut [u32; 32],
+    b: &[u8],
+    j: usize,
+    roots: &[u16],
+    added: &[u16],
+) -> bool
+    requires { ⌜ (128 * i ≤ length (now a)) × (128 * j ≤ length (now b)) × Tables large (now roots) (now added) ⌝ }
     ensures { λ r. ⌜ Turn large (now (s .entry)) (bitsOf (now (a .entry))) i (now (t .entry)) (bitsOf (now (b .entry))) j (now (s .exit)) (now (t .exit)) r ⌝ }
 {
     let x = block(a, i);
     let y = block(b, j);
     let differ = unlike(s, &x, t, &y);
-    compress(s, &x);
-    compress(t, &y);
+    compression::large::compress(s, &x, roots, added, false);
+    compression::large::compress(t, &y, roots, added, false);
     differ
 }
 
@@ -82,8 +83,10 @@ fn lockstep(
     b: &[u8],
     d: usize,
     common: usize,
+    roots: &[u16],
+    added: &[u16],
 ) -> usize
-    requires { ⌜ (128 * c < length (now a) + 128) × (128 * d < length (now b) + 128) × (common ≤ c) × (common ≤ d) ⌝ }
+    requires { ⌜ (128 * c < length (now a) + 128) × (128 * d < length (now b) + 128) × (common ≤ c) × (common ≤ d) × Tables large (now roots) (now added) ⌝ }
     ensures { λ r. ⌜ SideBySide large (now (s .entry)) (now (a .entry)) c (now (t .entry)) (now (b .entry)) d common common (now (s .exit)) (now (t .exit)) r ⌝ }
 {
     let mut met = common + 1;
@@ -91,7 +94,7 @@ fn lockstep(
     while k < common {
         let i = c - common + k;
         let j = d - common + k;
-        if turn(s, a, i, t, b, j) {
+        if turn(s, a, i, t, b, j, roots, added) {
             met = common - k;
         }
         k += 1;
@@ -128,8 +131,10 @@ pub fn compare(start: [u32; 32], a: &[u8], m: u64, b: &[u8], n: u64) -> Verdict
     let common = smaller(c, d);
     let mut s = start;
     let mut t = start;
-    absorb_blocks(&mut s, x, c - common);
-    absorb_blocks(&mut t, y, d - common);
-    let met = lockstep(&mut s, x, c, &mut t, y, d, common);
+    let roots = transform_tables::roots();
+    let added = transform_tables::added_large(false);
+    absorb_blocks(&mut s, x, c - common, &roots, &added);
+    absorb_blocks(&mut t, y, d - common, &roots, &added);
+    let met = lockstep(&mut s, x, c, &mut t, y, d, common, &roots, &added);
     judge(&mut s, m, &mut t, n, met, common + 1)
 }

@@ -1,5 +1,6 @@
 use mathlib.Core.Path.{_≡_, refl, ap, _∙_}
 use Prim.Native.Nat.{_≤_, _-_}
+use borrow.Author.Needs.{needs}
 use native.Mathlib.Omega.{arith}
 use Rattle.simd.specs.Basic.{large}
 use Rattle.simd.specs.Message.{bitsOf}
@@ -9,10 +10,10 @@ use Rattle.comparison.proofs.large.absorb_blocks.Statement.{statement}
 use Rattle.comparison.proofs.large.absorb_blocks.Tie as tie
 
 abbrev Inv-loop : tie.InvT-loop
-Inv-loop state₀ bytes count k₀ state k = (k ≤ count) × (state ≡ chain large state₀ (bitsOf bytes) k)
+Inv-loop state₀ bytes count roots added k₀ state k = (k ≤ count) × (state ≡ chain large state₀ (bitsOf bytes) k)
 
 abbrev μ-loop : tie.MeasureT-loop
-μ-loop state₀ bytes count k₀ state k = count - k
+μ-loop state₀ bytes count roots added k₀ state k = count - k
 
 loop-holds : tie.Need-loop-holds Inv-loop μ-loop
 unfolding chain
@@ -21,8 +22,13 @@ loop-holds c = (omega arith, refl)
 block-requires : tie.Need-block-requires Inv-loop μ-loop
 block-requires c κs = omega arith
 
+slice-aggregate-compress : tie.Need-slice-aggregate-compress Inv-loop μ-loop
+slice-aggregate-compress c = search needs
+
 compress-requires : tie.Need-compress-requires Inv-loop μ-loop
-compress-requires c κs = length-block large _ _ (c .before .before .block .ensures)
+compress-requires c κs =
+    let tables = c .before .before .before .before .before .before .before .before .pre .1 in
+    ((length-block large _ _ (c .before .before .block .ensures), tables .rooted), tables .constant)
 
 add-k : tie.Need-add-k Inv-loop μ-loop
 add-k c = omega arith
@@ -36,8 +42,9 @@ loop-again c =
 
 returns : tie.Need-returns Inv-loop μ-loop
 returns c =
-    let all : c .before .loop .k ≡ c .before .before .before .args .count = omega arith in
-    c .before .loop .inv .1 ∙ ap (chain large _ _) all
+    let inv = c .before .loop .inv .1 in
+    let all : c .before .loop .k ≡ c .before .before .before .before .before .args .count = omega arith in
+    inv ∙ ap (chain large _ _) all
 
 pub absorb-blocks-spec : {M : Type 1} → statement M
 absorb-blocks-spec =
@@ -47,6 +54,7 @@ absorb-blocks-spec =
     μ-loop
     loop-holds
     block-requires
+    slice-aggregate-compress
     compress-requires
     add-k
     loop-less

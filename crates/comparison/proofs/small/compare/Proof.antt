@@ -1,4 +1,5 @@
 use mathlib.Core.Path.{_∙_}
+use native.Mathlib.Omega.{arith}
 use borrow.Author.Needs.{needs}
 use Rattle.simd.specs.Basic.{small}
 use Rattle.comparison.proofs.ByteLaws.{used-blocks}
@@ -22,20 +23,51 @@ add-d c = search needs
 smaller-requires : tie.Need-smaller-requires
 smaller-requires c κs = search needs
 
+roots-requires : tie.Need-roots-requires
+roots-requires c κs = search needs
+
+added-small-requires : tie.Need-added-small-requires
+added-small-requires c κs = search needs
+
 sub-absorb-blocks : tie.Need-sub-absorb-blocks
 sub-absorb-blocks c = search needs
 
+slice-aggregate-absorb-blocks : tie.Need-slice-aggregate-absorb-blocks
+slice-aggregate-absorb-blocks c = search needs
+
+slice-aggregate-absorb-blocks-2 : tie.Need-slice-aggregate-absorb-blocks-2
+slice-aggregate-absorb-blocks-2 c = search needs
+
 absorb-blocks-requires : tie.Need-absorb-blocks-requires
-absorb-blocks-requires c κs = search needs
+absorb-blocks-requires c κs =
+    let made = c .before .before .before in
+    (omega (arith, made .before .before .smaller .ensures), record { rooted = made .before .roots .ensures; constant = made .added-small .ensures })
 
 sub-absorb-blocks-2 : tie.Need-sub-absorb-blocks-2
 sub-absorb-blocks-2 c = search needs
 
+slice-aggregate-absorb-blocks-3 : tie.Need-slice-aggregate-absorb-blocks-3
+slice-aggregate-absorb-blocks-3 c = search needs
+
+slice-aggregate-absorb-blocks-4 : tie.Need-slice-aggregate-absorb-blocks-4
+slice-aggregate-absorb-blocks-4 c = search needs
+
 absorb-blocks-requires-2 : tie.Need-absorb-blocks-requires-2
-absorb-blocks-requires-2 c κs = search needs
+absorb-blocks-requires-2 c κs =
+    let made = c .before .before .before .before .before .before .before in
+    (omega (arith, made .before .before .smaller .ensures), record { rooted = made .before .roots .ensures; constant = made .added-small .ensures })
+
+slice-aggregate-lockstep : tie.Need-slice-aggregate-lockstep
+slice-aggregate-lockstep c = search needs
+
+slice-aggregate-lockstep-2 : tie.Need-slice-aggregate-lockstep-2
+slice-aggregate-lockstep-2 c = search needs
 
 lockstep-requires : tie.Need-lockstep-requires
-lockstep-requires c κs = search needs
+lockstep-requires c κs =
+    let made = c .before .before .before .before .before .before .before .before .before .before .before .before in
+    let counted = made .before .before .smaller .ensures in
+    (omega arith, omega arith, omega arith, omega arith, record { rooted = made .before .roots .ensures; constant = made .added-small .ensures })
 
 add-judge : tie.Need-add-judge
 add-judge c = search needs
@@ -46,9 +78,9 @@ judge-requires c κs = search needs
 returns : tie.Need-returns
 returns c =
     let together = c .before .before .before in
-    let second-ahead = together .before .before .before in
-    let first-ahead = second-ahead .before .before in
-    let counted = first-ahead .before .before in
+    let second-ahead = together .before .before .before .before .before in
+    let first-ahead = second-ahead .before .before .before .before in
+    let counted = first-ahead .before .before .before .before .before .before in
     let second = counted .before in
     let first = second .before in
     let start = first .before .before .before in
@@ -68,10 +100,18 @@ compare-spec =
     add-c
     add-d
     smaller-requires
+    roots-requires
+    added-small-requires
     sub-absorb-blocks
+    slice-aggregate-absorb-blocks
+    slice-aggregate-absorb-blocks-2
     absorb-blocks-requires
     sub-absorb-blocks-2
+    slice-aggregate-absorb-blocks-3
+    slice-aggregate-absorb-blocks-4
     absorb-blocks-requires-2
+    slice-aggregate-lockstep
+    slice-aggregate-lockstep-2
     lockstep-requires
     add-judge
     judge-requires

@@ -8,10 +8,10 @@ use Rattle.comparison.proofs.small.lockstep.Statement.{statement}
 use Rattle.comparison.proofs.small.lockstep.Tie as tie
 
 abbrev Inv-loop : tie.InvT-loop
-Inv-loop s₀ a c t₀ b d n met₀ k₀ s t met k = (k ≤ n) × SideBySide small s₀ a c t₀ b d n k s t met
+Inv-loop s₀ a c t₀ b d common roots added met₀ k₀ s t met k = (k ≤ common) × SideBySide small s₀ a c t₀ b d common k s t met
 
 abbrev μ-loop : tie.MeasureT-loop
-μ-loop s₀ a c t₀ b d n met₀ k₀ s t met k = n - k
+μ-loop s₀ a c t₀ b d common roots added met₀ k₀ s t met k = common - k
 
 add-met : tie.Need-add-met Inv-loop μ-loop
 add-met c = omega arith
@@ -32,7 +32,7 @@ add-j : tie.Need-add-j Inv-loop μ-loop
 add-j c = omega arith
 
 turn-requires : tie.Need-turn-requires Inv-loop μ-loop
-turn-requires c κs = omega arith
+turn-requires c κs = (omega arith, omega arith, c .before .before .before .before .before .before .before .before .pre .4)
 
 sub-met : tie.Need-sub-met Inv-loop μ-loop
 sub-met c = omega arith
@@ -45,7 +45,7 @@ loop-less c = omega arith
 
 loop-again : tie.Need-loop-again Inv-loop μ-loop
 loop-again c =
-    let start = c .before .before .before .before .before .before .before .before in
+    let start = c .before .before .before .before .before .before .before .before .before .before in
     let low = c .before .before .before .before .loop-test .taken in
     let inv = c .before .before .before .before .before .loop .inv in (
       omega arith,

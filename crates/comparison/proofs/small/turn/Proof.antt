@@ -19,8 +19,14 @@ slice-aggregate-unlike-2 c = search needs
 unlike-requires : tie.Need-unlike-requires
 unlike-requires c κs = search needs
 
+slice-aggregate-compress : tie.Need-slice-aggregate-compress
+slice-aggregate-compress c = search needs
+
 compress-requires : tie.Need-compress-requires
 compress-requires c κs = search needs
+
+slice-aggregate-compress-2 : tie.Need-slice-aggregate-compress-2
+slice-aggregate-compress-2 c = search needs
 
 compress-requires-2 : tie.Need-compress-requires-2
 compress-requires-2 c κs = search needs
@@ -40,6 +46,8 @@ turn-spec =
     slice-aggregate-unlike
     slice-aggregate-unlike-2
     unlike-requires
+    slice-aggregate-compress
     compress-requires
+    slice-aggregate-compress-2
     compress-requires-2
     returns)
