@@ -34,7 +34,7 @@ pub fn is_clear(bytes: &[u8], count: u64) -> bool
     widened(bytes[at]) % unit == 0
 }
 
-pub fn widened(x: u8) -> u32
+fn widened(x: u8) -> u32
     ensures { λ r. ⌜ r ≡ x ⌝ }
 {
     x as u32

@@ -1,3 +1,4 @@
+-- The loop's invariant: the state is the one after the blocks passed.
 use mathlib.Core.Path.{_≡_, refl, ap, _∙_}
 use Prim.Native.Nat.{_≤_, _-_}
 use borrow.Author.Needs.{needs}

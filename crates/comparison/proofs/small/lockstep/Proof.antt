@@ -1,3 +1,4 @@
+-- The loop's invariant: what holds after the turns passed, whatever starting states led to the two states.
 use mathlib.Core.Logic.{⊎-elim}
 use Prim.Native.Nat.{_≤_, _-_}
 use native.Mathlib.Omega.{arith}
