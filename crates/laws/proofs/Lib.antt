@@ -1,6 +1,8 @@
 pub mod Table
 pub mod Sum
 pub mod Words
+pub mod Bits
+pub mod Chain
 pub mod Fill
 pub mod Append
 pub mod Field
@@ -8,6 +10,4 @@ pub mod Below
 pub mod Regroup
 pub mod Roots
 pub mod Stores
-pub mod Bits
-pub mod Chain
 pub mod LittleEndian

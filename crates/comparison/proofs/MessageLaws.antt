@@ -1,0 +1,70 @@
+-- Laws of messages: their bits and length come back from their blocks and length block.
+use mathlib.Core.List.{List}
+use mathlib.Core.Path.{_≡_, sym, ap, _∙_}
+use Prim.Native.Nat.{ℕ, suc, _+_, _*_, _-_, _/_, _%_, _^_, _<_}
+use native.Mathlib.Nat.{div-div-eq-div-mul, div-one}
+use native.Mathlib.Omega.{arith}
+use lib.ListN.{length, getD}
+use lib.Seq.{ext-getD}
+use Rattle.simd.specs.Basic.{Family, small, large, blockBytes}
+use Rattle.simd.specs.Message.{byteOf, block, messageBlocks, lengthBlock}
+use Rattle.laws.proofs.Bits.{Bits, byte-value, value-bit}
+use Rattle.laws.proofs.Table.{getD-table}
+
+-- A message that breaks no rule: its elements are bits, and its length fits 32 bits.
+pub record IsMessage (m : List ℕ) : Type 0 where
+  pub bits : Bits m
+  pub short : length m < 2 ^ 32
+
+-- Bit i of a message, from its byte.
+bit-of-byte : (m : List ℕ) → Bits m → (i : ℕ) → getD m i 0 ≡ byteOf m (i / 8) / 2 ^ (7 - i % 8) % 2
+bit-of-byte m bits i =
+    let whole : 8 * (i / 8) + i % 8 ≡ i = omega arith in
+    let top : 7 - i % 8 ≡ 8 - suc (i % 8) = omega arith in
+    let bit = value-bit 8 (i % 8) (λ t. getD m (8 * (i / 8) + t) 0) (λ t. bits (8 * (i / 8) + t)) (omega arith) in
+    rw (byte-value m (i / 8), top) (ap (λ (j : ℕ). getD m j 0) (sym whole) ∙ sym bit)
+
+-- Byte j of a message, from its block.
+byte-of-block : (f : Family) (m : List ℕ) (j : ℕ) → byteOf m j ≡ getD (block f m (j / blockBytes f)) (j % blockBytes f) 0
+unfolding block
+byte-of-block small m j =
+    sym (getD-table 64 (λ t. byteOf m (64 * (j / 64) + t)) (j % 64) 0 (omega arith) ∙ ap (byteOf m) (omega arith))
+byte-of-block large m j =
+    sym (getD-table 128 (λ t. byteOf m (128 * (j / 128) + t)) (j % 128) 0 (omega arith) ∙ ap (byteOf m) (omega arith))
+
+-- The block of a bit is one of the message's.
+block-of-bit : (f : Family) (n i : ℕ) → i < n → i / 8 / blockBytes f < messageBlocks f n
+unfolding messageBlocks
+block-of-bit small n i h = omega arith
+block-of-bit large n i h = omega arith
+
+-- Two messages of one length with the same blocks are the same.
+pub message-ext : (f : Family) (a b : List ℕ) → Bits a → Bits b → length a ≡ length b
+    → ((k : ℕ) → k < messageBlocks f (length a) → block f a k ≡ block f b k) → a ≡ b
+message-ext f a b wa wb e same =
+    ext-getD 0 a b e
+    (λ i low.
+    let blocks = same (i / 8 / blockBytes f) (block-of-bit f (length a) i low) in
+    let bytes = byte-of-block f a (i / 8) ∙ ap (λ (l : List ℕ). getD l (i / 8 % blockBytes f) 0) blocks ∙ sym (byte-of-block f b (i / 8)) in
+    bit-of-byte a wa i ∙ ap (λ (y : ℕ). y / 2 ^ (7 - i % 8) % 2) bytes ∙ sym (bit-of-byte b wb i))
+
+-- Numbers with the same digit at d and the same higher digits are the same from d on.
+digit-ext : (d n k : ℕ) → n / d % 256 ≡ k / d % 256 → n / (d * 256) ≡ k / (d * 256) → n / d ≡ k / d
+digit-ext d n k low high = omega (arith, div-div-eq-div-mul n d 256, div-div-eq-div-mul k d 256)
+
+length-byte : (f : Family) (n j : ℕ) → j < 4 → getD (lengthBlock f n) j 0 ≡ n / 256 ^ j % 256
+unfolding lengthBlock
+length-byte small n j h = getD-table 64 (λ j. n / 256 ^ j % 256) j 0 (omega arith)
+length-byte large n j h = getD-table 128 (λ j. n / 256 ^ j % 256) j 0 (omega arith)
+
+-- The length block tells the length.
+pub length-ext : (f : Family) (n k : ℕ) → n < 2 ^ 32 → k < 2 ^ 32 → lengthBlock f n ≡ lengthBlock f k → n ≡ k
+length-ext f n k hn hk e =
+    let at : (j : ℕ) → j < 4 → n / 256 ^ j % 256 ≡ k / 256 ^ j % 256 =
+    λ j h. sym (length-byte f n j h) ∙ ap (λ (l : List ℕ). getD l j 0) e ∙ length-byte f k j h in
+    let high : n / 256 ^ 4 ≡ k / 256 ^ 4 = omega arith in
+    let d3 = digit-ext (256 ^ 3) n k (at 3 (omega arith)) high in
+    let d2 = digit-ext (256 ^ 2) n k (at 2 (omega arith)) d3 in
+    let d1 = digit-ext 256 n k (at 1 (omega arith)) d2 in
+    let d0 = digit-ext 1 n k (at 0 (omega arith)) d1 in
+    sym (div-one n) ∙ d0 ∙ div-one k

@@ -1,0 +1,175 @@
+-- The theorems of the comparison, for every two messages that break no rule and at every width. They are about `answer`, the very
+-- definition that the contract of `compare` cites.
+use mathlib.Core.Bool.{false, true}
+use mathlib.Core.List.{List}
+use mathlib.Core.Logic.{_↔_, _⊎_, inl, inr}
+use mathlib.Core.Path.{_≡_, refl, sym, ap, _∙_}
+use Prim.Native.Nat.{ℕ, suc, _<_, _≤_}
+use native.Mathlib.Decide.{decLt}
+use native.Mathlib.Omega.{arith}
+use lib.Dec.{eqb}
+use lib.ListN.{length, getD}
+use lib.Seq.{ext-getD}
+use Rattle.simd.specs.Basic.{Family, familyOf}
+use Rattle.simd.specs.Constants.{start}
+use Rattle.simd.specs.Message.{message, messageBlocks}
+use Rattle.simd.specs.Steps.{compression}
+use Rattle.simd.specs.Hash.{finalState, compressions}
+use Rattle.comparison.specs.Pairs.{stateAt, blockAt}
+use Rattle.comparison.specs.Compared.{Found, same, apart, meet, common, found, compared}
+use Rattle.comparison.specs.Answer.{refusal, verdict, answer}
+use Rattle.comparison.specs.declared.Verdict.the-variants.{Same, Apart, Meet}
+use Rattle.comparison.proofs.ByteLaws.{is-message, length-message}
+use Rattle.comparison.proofs.RefusalLaws.{Accepted, accepted}
+use Rattle.comparison.proofs.PairLaws.{first-state, out-of-message, out-of-length}
+use Rattle.comparison.proofs.FoundLaws as laws
+
+-- The pairs of a message are those of its compressions: the starting state goes into the first block, what comes out of a message block goes
+-- into the next block, and what comes out of the length block is the final state.
+pub record Chained (width : ℕ) (m : List ℕ) : Type 0 where
+  pub first : stateAt (familyOf width) (start width) m (messageBlocks (familyOf width) (length m)) ≡ start width
+  pub next :
+      (n : ℕ) → n < messageBlocks (familyOf width) (length m)
+      → compression (familyOf width) false (stateAt (familyOf width) (start width) m (suc n)) (blockAt (familyOf width) m (suc n))
+      ≡ stateAt (familyOf width) (start width) m n
+  pub last :
+      compression (familyOf width) true (stateAt (familyOf width) (start width) m 0) (blockAt (familyOf width) m 0) ≡ finalState width m
+
+pub pairs-chained : (width : ℕ) (m : List ℕ) → Chained width m
+unfolding finalState
+pairs-chained width m =
+    record {
+      first = first-state (familyOf width) (start width) m;
+      next = out-of-message (familyOf width) (start width) m;
+      last = out-of-length (familyOf width) (start width) m;
+    }
+
+-- Lengths and bits are equal.
+pub record SameBits (a : List ℕ) (na : ℕ) (b : List ℕ) (nb : ℕ) : Type 0 where
+  pub lengths : na ≡ nb
+  pub bits : (i : ℕ) → i < na → getD (message a na) i 0 ≡ getD (message b nb) i 0
+
+-- What holds where two messages meet at k. Both have a block of that number; their pairs there differ; both pairs go into the same kind of
+-- compression, that of a length block at 0 and of a message block elsewhere, and one state comes out; at every smaller number the pairs
+-- are equal; and k is the smallest number at which they differ.
+pub record MeetAt (f : Family) (from a b : List ℕ) (k : ℕ) : Type 0 where
+  pub first-has : k < compressions f (length a)
+  pub second-has : k < compressions f (length b)
+  pub differ : laws.SamePair f from a b k → ⊥
+  pub one-state :
+      compression f (eqb k 0) (stateAt f from a k) (blockAt f a k) ≡ compression f (eqb k 0) (stateAt f from b k) (blockAt f b k)
+  pub below : (i : ℕ) → i < k → laws.SamePair f from a b i
+  pub smallest : (i : ℕ) → (laws.SamePair f from a b i → ⊥) → k ≤ i
+
+-- Exactly one of three statements holds.
+pub record ExactlyOne (P Q R : Type 0) : Type 0 where
+  pub one : P ⊎ (Q ⊎ R)
+  pub not-first-two : P → Q → ⊥
+  pub not-outer : P → R → ⊥
+  pub not-last-two : Q → R → ⊥
+
+module _ (width : ℕ) (a : List ℕ) (na : ℕ) (b : List ℕ) (nb : ℕ) (rules : refusal width a na b nb ≡ 0) where
+  abbrev f : Family
+  f = familyOf width
+
+  abbrev x : List ℕ
+  x = message a na
+
+  abbrev y : List ℕ
+  y = message b nb
+
+  first : Accepted a na
+  first = accepted a na (laws.unrefused width a na b nb rules .0)
+
+  second : Accepted b nb
+  second = accepted b nb (laws.unrefused width a na b nb rules .1)
+
+  same-message : SameBits a na b nb ↔ (x ≡ y)
+  same-message = (
+    λ s.
+        ext-getD 0 x y (length-message a na first ∙ s .lengths ∙ sym (length-message b nb second))
+        (λ i low. s .bits i (omega (arith, length-message a na first))),
+    λ e.
+        record {
+          lengths = sym (length-message a na first) ∙ ap length e ∙ length-message b nb second;
+          bits = λ i low. ap (λ (m : List ℕ). getD m i 0) e;
+        },
+  )
+
+  -- The answer, where nothing is refused.
+  unrefused : answer width a na b nb ≡ verdict 0 (found f (start width) x y)
+  unfolding answer compared
+  unrefused = ap (λ (r : ℕ). verdict r (found f (start width) x y)) rules
+
+  -- Same exactly when lengths and bits are equal.
+  pub same-exactly : (answer width a na b nb ≡ Same) ↔ SameBits a na b nb
+  unfolding verdict
+  same-exactly = (
+    λ e. same-message .1 (laws.found-same f (start width) x y .0 (laws.verdict-same (found f (start width) x y) (sym unrefused ∙ e))),
+    λ s. unrefused ∙ ap (verdict 0) (laws.found-same f (start width) x y .1 (same-message .0 s)),
+  )
+
+  -- Apart exactly when they differ and the final states differ.
+  pub apart-exactly :
+      (answer width a na b nb ≡ Apart)
+      ↔ ((SameBits a na b nb → ⊥) × (finalState width (message a na) ≡ finalState width (message b nb) → ⊥))
+  unfolding verdict finalState
+  apart-exactly = (
+    λ e.
+        let h = laws.found-apart f (start width) x y .0 (laws.verdict-apart (found f (start width) x y) (sym unrefused ∙ e)) in
+        (λ s. h .0 (same-message .0 s), h .1),
+    λ h. unrefused ∙ ap (verdict 0) (laws.found-apart f (start width) x y .1 (λ e. h .0 (same-message .1 e), h .1)),
+  )
+
+  -- Meet exactly when they differ and the final states are equal.
+  pub meet-exactly :
+      ((k : ℕ) × (answer width a na b nb ≡ Meet k))
+      ↔ ((SameBits a na b nb → ⊥) × (finalState width (message a na) ≡ finalState width (message b nb)))
+  unfolding verdict finalState
+  meet-exactly = (
+    λ e.
+        let h = laws.found-meet f (start width) x y .0 (e .0, laws.verdict-meet (found f (start width) x y) (e .0) (sym unrefused ∙ e .1)) in
+        (λ s. h .0 (same-message .0 s), h .1),
+    λ h.
+        let k = laws.found-meet f (start width) x y .1 (λ e. h .0 (same-message .1 e), h .1) in
+        (k .0, unrefused ∙ ap (verdict 0) (k .1)),
+  )
+
+  one-of : (z : Found) → (verdict 0 z ≡ Same) ⊎ ((verdict 0 z ≡ Apart) ⊎ ((k : ℕ) × (verdict 0 z ≡ Meet k)))
+  unfolding verdict
+  one-of same = inl refl
+  one-of apart = inr (inl refl)
+  one-of (meet k) = inr (inr (k, refl))
+
+  -- Exactly one of the three.
+  pub exactly-one :
+      ExactlyOne (answer width a na b nb ≡ Same) (answer width a na b nb ≡ Apart) ((k : ℕ) × (answer width a na b nb ≡ Meet k))
+  exactly-one =
+      record {
+        one = rw unrefused (one-of (found f (start width) x y));
+        not-first-two = λ p q. let z : _≡_ {A = ℕ} 0 1 = cc in omega arith;
+        not-outer = λ p r. let e = r .1 in let z : _≡_ {A = ℕ} 0 1 = cc in omega arith;
+        not-last-two = λ q r. let e = r .1 in let z : _≡_ {A = ℕ} 0 1 = cc in omega arith;
+      }
+
+  -- At Meet k.
+  pub at-meet : (k : ℕ) → answer width a na b nb ≡ Meet k → MeetAt (familyOf width) (start width) (message a na) (message b nb) k
+  unfolding common
+  at-meet k e =
+      let met = laws.verdict-meet (found f (start width) x y) k (sym unrefused ∙ e) in
+      let wx = is-message a na first in
+      let wy = is-message b nb second in
+      let low = laws.common-meet f (start width) x y wx wy k met in
+      let below = laws.below-meet f (start width) x y k met in
+      record {
+        first-has = omega arith;
+        second-has = omega arith;
+        differ = laws.differ-meet f (start width) x y wx wy k met;
+        one-state = laws.one-state f (start width) x y k low (laws.found-meet f (start width) x y .0 (k, met) .1) below;
+        below = below;
+        smallest = λ i d. above i d (decLt i k);
+      }
+    where
+      above : (i : ℕ) → (laws.SamePair f (start width) x y i → ⊥) → Dec (i < k) → k ≤ i
+      above i d (yes low) = absurd (d (laws.below-meet f (start width) x y k (laws.verdict-meet (found f (start width) x y) k (sym unrefused ∙ e)) i low))
+      above i d (no high) = omega (arith, high)

@@ -1,0 +1,6 @@
+pub mod Lists
+pub mod Pairs
+pub mod Compared
+pub mod Refusal
+pub mod Answer
+pub mod Lockstep

@@ -1,0 +1,140 @@
+// The comparison at the widths of the large family. Of the first and the second message, s and t are the states, a and b the bytes, c and d
+// the numbers of message blocks, m and n the lengths in bits.
+ghost use mathlib.Core.Bool.{false};
+ghost use mathlib.Core.Path.{_≡_};
+ghost use Prim.Native.Nat.{_+_, _-_, _*_, _≤_, _<_};
+ghost use lib.ListN.{length};
+ghost use Rattle.simd.specs.Basic.{large};
+ghost use Rattle.simd.specs.Message.{bitsOf, block as blockOf, message};
+ghost use Rattle.simd.specs.Hash.{chain};
+ghost use Rattle.comparison.specs.Compared.{found};
+ghost use Rattle.comparison.specs.Refusal.{messageRefusal};
+ghost use Rattle.comparison.specs.Answer.{verdict};
+ghost use Rattle.comparison.specs.Lockstep.{zeros as zeroBytes, Tables, Turn, SideBySide, judged};
+use crate::Verdict;
+use crate::checks::used_part;
+use crate::pairs::copy;
+use crate::pairs::same_words;
+use crate::pairs::smaller;
+use crate::pairs::unlike;
+use crate::pairs::with_length;
+
+fn zeros() -> [u8; 128]
+    ensures { λ r. ⌜ r ≡ zeroBytes 128 ⌝ }
+{
+    [0u8; 128]
+}
+
+// Block k of a byte string, with zeros past its end.
+fn block(bytes: &[u8], k: usize) -> [u8; 128]
+    requires { ⌜ 128 * k ≤ length (now bytes) ⌝ }
+    ensures { λ r. ⌜ r ≡ blockOf large (bitsOf (now (bytes .entry))) k ⌝ }
+{
+    let mut block = zeros();
+    let at = 128 * k;
+    let left = bytes.len() - at;
+    let end = at + smaller(left, 128);
+    copy(&bytes[at..end], &mut block);
+    block
+}
+
+// Compresses the first blocks of a byte string.
+fn absorb_blocks(state: &mut [u32; 32], bytes: &[u8], count: usize, roots: &[u16], added: &[u16])
+    requires { ⌜ (128 * count < length (now bytes) + 128) × Tables large (now roots) (now added) ⌝ }
+    ensures { λ _. ⌜ now (state .exit) ≡ chain large (now (state .entry)) (bitsOf (now (bytes .entry))) count ⌝ }
+{
+    let mut k = 0;
+    while k < count {
+        let x = block(bytes, k);
+        compression::large::compress(state, &x, roots, added, false);
+        k += 1;
+    }
+}
+
+// Compresses one block of each byte string, and tells whether the pairs differ.
+fn turn(
+    s: &mut [u32; 32],
+    a: &[u8],
+    i: usize,
+    t: &mut [u32; 32],
+    b: &[u8],
+    j: usize,
+    roots: &[u16],
+    added: &[u16],
+) -> bool
+    requires { ⌜ (128 * i ≤ length (now a)) × (128 * j ≤ length (now b)) × Tables large (now roots) (now added) ⌝ }
+    ensures { λ r. ⌜ Turn large (now (s .entry)) (bitsOf (now (a .entry))) i (now (t .entry)) (bitsOf (now (b .entry))) j (now (s .exit)) (now (t .exit)) r ⌝ }
+{
+    let x = block(a, i);
+    let y = block(b, j);
+    let differ = unlike(s, &x, t, &y);
+    compression::large::compress(s, &x, roots, added, false);
+    compression::large::compress(t, &y, roots, added, false);
+    differ
+}
+
+// Compresses the last `common` blocks of both side by side. The result is the smallest number, counted back, at which the pairs differ, and
+// common + 1 where there is none.
+fn lockstep(
+    s: &mut [u32; 32],
+    a: &[u8],
+    c: usize,
+    t: &mut [u32; 32],
+    b: &[u8],
+    d: usize,
+    common: usize,
+    roots: &[u16],
+    added: &[u16],
+) -> usize
+    requires { ⌜ (128 * c < length (now a) + 128) × (128 * d < length (now b) + 128) × (common ≤ c) × (common ≤ d) × Tables large (now roots) (now added) ⌝ }
+    ensures { λ r. ⌜ SideBySide large (now (s .entry)) (now (a .entry)) c (now (t .entry)) (now (b .entry)) d common common (now (s .exit)) (now (t .exit)) r ⌝ }
+{
+    let mut met = common + 1;
+    let mut k = 0;
+    while k < common {
+        let i = c - common + k;
+        let j = d - common + k;
+        if turn(s, a, i, t, b, j, roots, added) {
+            met = common - k;
+        }
+        k += 1;
+    }
+    met
+}
+
+// The verdict, from the states before the length blocks.
+fn judge(s: &mut [u32; 32], m: u64, t: &mut [u32; 32], n: u64, met: usize, none: usize) -> Verdict
+    ensures { λ r. ⌜ r ≡ judged large (now (s .entry)) m (now (t .entry)) n met none ⌝ }
+{
+    let number = with_length(s, m, t, n, met);
+    compression::finish_large(s, m);
+    compression::finish_large(t, n);
+    if number == none {
+        return Verdict::Same;
+    }
+    if same_words(s, t) {
+        Verdict::Meet(number as u64)
+    } else {
+        Verdict::Apart
+    }
+}
+
+// The comparison of two messages that break no rule.
+pub fn compare(start: [u32; 32], a: &[u8], m: u64, b: &[u8], n: u64) -> Verdict
+    requires { ⌜ (messageRefusal (now a) m ≡ 0) × (messageRefusal (now b) n ≡ 0) ⌝ }
+    ensures { λ r. ⌜ r ≡ verdict 0 (found large start (message (now (a .entry)) m) (message (now (b .entry)) n)) ⌝ }
+{
+    let x = used_part(a, m);
+    let y = used_part(b, n);
+    let c = (x.len() + 127) / 128;
+    let d = (y.len() + 127) / 128;
+    let common = smaller(c, d);
+    let mut s = start;
+    let mut t = start;
+    let roots = transform_tables::roots();
+    let added = transform_tables::added_large(false);
+    absorb_blocks(&mut s, x, c - common, &roots, &added);
+    absorb_blocks(&mut t, y, d - common, &roots, &added);
+    let met = lockstep(&mut s, x, c, &mut t, y, d, common, &roots, &added);
+    judge(&mut s, m, &mut t, n, met, common + 1)
+}

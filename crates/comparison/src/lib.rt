@@ -1,0 +1,59 @@
+// The comparison of two messages: Same, Apart, or Meet with the number of the block.
+//
+// The longer message first absorbs its extra leading blocks alone. From there on both have the same number, counted back from the length
+// block, and go on side by side: before each compression the pairs of state and block are compared, and the last number at which they
+// differ is kept.
+mod checks;
+mod large;
+mod pairs;
+mod small;
+
+ghost use mathlib.Core.Bool.{true};
+ghost use mathlib.Core.Path.{_≡_};
+ghost use Rattle.simd.specs.Basic.{isWidth};
+ghost use Rattle.simd.specs.Message.{message};
+ghost use Rattle.comparison.specs.Compared.{compared};
+ghost use Rattle.comparison.specs.Refusal.{messageRefusal};
+ghost use Rattle.comparison.specs.Answer.{verdict, answer};
+
+pub enum Verdict {
+    Same,
+    Apart,
+    Meet(u64),
+    Refused(u8),
+}
+
+// The comparison at one of the four widths of two messages that break no rule.
+fn compare_width(width: u16, a: &[u8], m: u64, b: &[u8], n: u64) -> Verdict
+    requires { ⌜ (isWidth width ≡ true) × (messageRefusal (now a) m ≡ 0) × (messageRefusal (now b) n ≡ 0) ⌝ }
+    ensures { λ r. ⌜ r ≡ verdict 0 (compared width (message (now (a .entry)) m) (message (now (b .entry)) n)) ⌝ }
+{
+    if width == 224 {
+        return small::compare(compression::start_224(), a, m, b, n);
+    }
+    if width == 256 {
+        return small::compare(compression::start_256(), a, m, b, n);
+    }
+    if width == 384 {
+        return large::compare(compression::start_384(), a, m, b, n);
+    }
+    large::compare(compression::start_512(), a, m, b, n)
+}
+
+// Compares two messages at a width.
+pub fn compare(width: u16, a: &[u8], a_bits: u64, b: &[u8], b_bits: u64) -> Verdict
+    ensures { λ r. ⌜ r ≡ answer width (now (a .entry)) «a_bits» (now (b .entry)) «b_bits» ⌝ }
+{
+    if !checks::is_width(width) {
+        return Verdict::Refused(1);
+    }
+    let first = checks::refusal_of(a, a_bits);
+    if first != 0 {
+        return Verdict::Refused(first);
+    }
+    let second = checks::refusal_of(b, b_bits);
+    if second != 0 {
+        return Verdict::Refused(second);
+    }
+    compare_width(width, a, a_bits, b, b_bits)
+}
