@@ -1,0 +1,77 @@
+-- Laws of `readAt`.
+use mathlib.Core.Bool.{Bool, true, false, cond}
+use mathlib.Core.List.{List}
+use mathlib.Core.Path.{_≡_, refl, sym, ap, _∙_}
+use Prim.Native.Nat.{ℕ, _+_, _*_, _≤_, _<_}
+use native.Mathlib.Omega.{arith}
+use borrow.Author.Tests.{le-leb, lt-leb, leb-true, leb-false, ne-eqb}
+use lib.Dec.{leb, eqb}
+use lib.ListN.{length, getD}
+use Rattle.reader.specs.declared.Command.{Command}
+use Rattle.reader.specs.declared.Reading.{Reading}
+use Rattle.reader.specs.declared.Reading.the-variants.{Found, Refused}
+use Rattle.reader.specs.Reading.{whole, readBy, readAt}
+
+module _ (tape : List ℕ) (at : ℕ) where
+  -- No byte is left.
+  pub read-none : length tape ≤ at → readAt tape at ≡ Refused 11 (length tape)
+  unfolding readAt
+  read-none none = simp (le-leb (length tape) at none)
+
+  -- The answer goes by the byte.
+  pub read-byte : (byte : ℕ) → at < length tape → getD tape at 0 ≡ byte → readAt tape at ≡ readBy tape at byte
+  unfolding readAt
+  read-byte byte here e = simp (lt-leb (length tape) at here) (ap (readBy tape at) e)
+
+  pub read-other : at < length tape → (getD tape at 0 ≡ 1 → ⊥) → (getD tape at 0 ≡ 2 → ⊥) → (getD tape at 0 ≡ 3 → ⊥) → (getD tape at 0 ≡ 4 → ⊥) → (getD tape at 0 ≡ 5 → ⊥) → readAt tape at ≡ Refused 10 at
+  unfolding readAt
+  read-other here n1 n2 n3 n4 n5 =
+      simp
+      (lt-leb (length tape) at here, ne-eqb (getD tape at 0) 1 n1, ne-eqb (getD tape at 0) 2 n2, ne-eqb (getD tape at 0) 3 n3, ne-eqb (getD tape at 0) 4 n4, ne-eqb (getD tape at 0) 5 n5)
+
+  -- A command by its byte, whole or cut off.
+  pub read-found : (byte size : ℕ) (command : Command) → at < length tape → getD tape at 0 ≡ byte → readBy tape at byte ≡ whole tape at size command → at + size ≤ length tape → Found command (at + size) ≡ readAt tape at
+  read-found byte size command here e by fits = sym (read-byte byte here e ∙ by ∙ simp (le-leb (at + size) (length tape) fits))
+
+  pub read-short : (byte size : ℕ) (command : Command) → at < length tape → getD tape at 0 ≡ byte → readBy tape at byte ≡ whole tape at size command → length tape < at + size → Refused 11 at ≡ readAt tape at
+  read-short byte size command here e by short = sym (read-byte byte here e ∙ by ∙ simp (lt-leb (at + size) (length tape) short))
+
+  -- A command found has a byte at least and lies within the tape.
+  Within : Reading → Type 0
+  Within reading = (command : Command) (next : ℕ) → reading ≡ Found command next → (at < next) × (next ≤ length tape)
+
+  refused-within : (number place : ℕ) → Within (Refused number place)
+  unfolding Within
+  refused-within number place command next e =
+      let no : _≡_ {A = ℕ} 0 1 = cc in
+      omega arith
+
+  cond-within : (b : Bool) (x y : Reading) → Within x → Within y → Within (cond b x y)
+  cond-within true x y p q = p
+  cond-within false x y p q = q
+
+  whole-by : (b : Bool) (size : ℕ) (found : Command) → leb (at + size) (length tape) ≡ b → 0 < size → Within (cond b (Found found (at + size)) (Refused 11 at))
+  unfolding Within
+  whole-by true size found t some command next e =
+      let fits : at + size ≤ length tape = leb-true _ _ t in
+      let same : at + size ≡ next = cc in
+      omega arith
+  whole-by false size found t some command next e = refused-within 11 at command next e
+
+  whole-within : (size : ℕ) (found : Command) → 0 < size → Within (whole tape at size found)
+  whole-within size found some = whole-by (leb (at + size) (length tape)) size found refl some
+
+  read-within : Within (readAt tape at)
+  unfolding readAt
+  read-within =
+      let byte = getD tape at 0 in
+      cond-within (leb (length tape) at) _ _ (refused-within _ _)
+      (cond-within (eqb byte 1) _ _ (whole-within 3 _ (omega arith))
+      (cond-within (eqb byte 2) _ _ (whole-within 33 _ (omega arith))
+      (cond-within (eqb byte 3) _ _ (whole-within 34 _ (omega arith))
+      (cond-within (eqb byte 4) _ _ (whole-within 1 _ (omega arith))
+      (cond-within (eqb byte 5) _ _ (whole-within 1 _ (omega arith)) (refused-within _ _))))))
+
+  pub read-next : (command : Command) (next : ℕ) → readAt tape at ≡ Found command next → (at < next) × (next ≤ length tape)
+  unfolding Within
+  read-next = read-within
