@@ -1,16 +1,17 @@
 -- Laws of `readAt`.
 use mathlib.Core.Bool.{Bool, true, false, cond}
 use mathlib.Core.List.{List}
-use mathlib.Core.Path.{_≡_, refl, sym, ap, _∙_}
+use mathlib.Core.Path.{_≡_, refl, sym, ap, _∙_, subst}
 use Prim.Native.Nat.{ℕ, _+_, _*_, _≤_, _<_}
 use native.Mathlib.Omega.{arith}
 use borrow.Author.Tests.{le-leb, lt-leb, leb-true, leb-false, ne-eqb}
 use lib.Dec.{leb, eqb}
 use lib.ListN.{length, getD}
 use Rattle.reader.specs.declared.Command.{Command}
+use Rattle.reader.specs.declared.Command.the-variants.{Open, Full, Part, Take, Stop}
 use Rattle.reader.specs.declared.Reading.{Reading}
 use Rattle.reader.specs.declared.Reading.the-variants.{Found, Refused}
-use Rattle.reader.specs.Reading.{whole, readBy, readAt}
+use Rattle.reader.specs.Reading.{whole, readBy, readAt, Inside}
 
 module _ (tape : List ℕ) (at : ℕ) where
   -- No byte is left.
@@ -36,42 +37,43 @@ module _ (tape : List ℕ) (at : ℕ) where
   pub read-short : (byte size : ℕ) (command : Command) → at < length tape → getD tape at 0 ≡ byte → readBy tape at byte ≡ whole tape at size command → length tape < at + size → Refused 11 at ≡ readAt tape at
   read-short byte size command here e by short = sym (read-byte byte here e ∙ by ∙ simp (lt-leb (at + size) (length tape) short))
 
-  -- A command found has a byte at least and lies within the tape.
+  -- A command found has a byte at least and lies within the tape, with its 32 bytes.
   Within : Reading → Type 0
-  Within reading = (command : Command) (next : ℕ) → reading ≡ Found command next → (at < next) × (next ≤ length tape)
+  Within reading = (command : Command) (next : ℕ) → reading ≡ Found command next → (at < next) × (next ≤ length tape) × Inside tape command
 
   refused-within : (number place : ℕ) → Within (Refused number place)
   unfolding Within
   refused-within number place command next e =
       let no : _≡_ {A = ℕ} 0 1 = cc in
-      omega arith
+      absurd (omega arith)
 
   cond-within : (b : Bool) (x y : Reading) → Within x → Within y → Within (cond b x y)
   cond-within true x y p q = p
   cond-within false x y p q = q
 
-  whole-by : (b : Bool) (size : ℕ) (found : Command) → leb (at + size) (length tape) ≡ b → 0 < size → Within (cond b (Found found (at + size)) (Refused 11 at))
+  whole-by : (b : Bool) (size : ℕ) (found : Command) → leb (at + size) (length tape) ≡ b → 0 < size → (at + size ≤ length tape → Inside tape found) → Within (cond b (Found found (at + size)) (Refused 11 at))
   unfolding Within
-  whole-by true size found t some command next e =
+  whole-by true size found t some inside command next e =
       let fits : at + size ≤ length tape = leb-true _ _ t in
       let same : at + size ≡ next = cc in
-      omega arith
-  whole-by false size found t some command next e = refused-within 11 at command next e
+      let this : found ≡ command = cc in
+      (omega arith, omega arith, subst (Inside tape) this (inside fits))
+  whole-by false size found t some inside command next e = refused-within 11 at command next e
 
-  whole-within : (size : ℕ) (found : Command) → 0 < size → Within (whole tape at size found)
-  whole-within size found some = whole-by (leb (at + size) (length tape)) size found refl some
+  whole-within : (size : ℕ) (found : Command) → 0 < size → (at + size ≤ length tape → Inside tape found) → Within (whole tape at size found)
+  whole-within size found some inside = whole-by (leb (at + size) (length tape)) size found refl some inside
 
   read-within : Within (readAt tape at)
   unfolding readAt
   read-within =
       let byte = getD tape at 0 in
       cond-within (leb (length tape) at) _ _ (refused-within _ _)
-      (cond-within (eqb byte 1) _ _ (whole-within 3 _ (omega arith))
-      (cond-within (eqb byte 2) _ _ (whole-within 33 _ (omega arith))
-      (cond-within (eqb byte 3) _ _ (whole-within 34 _ (omega arith))
-      (cond-within (eqb byte 4) _ _ (whole-within 1 _ (omega arith))
-      (cond-within (eqb byte 5) _ _ (whole-within 1 _ (omega arith)) (refused-within _ _))))))
+      (cond-within (eqb byte 1) _ _ (whole-within 3 (Open (getD tape (at + 1) 0 + 256 * getD tape (at + 2) 0)) (omega arith) (λ _. tt))
+      (cond-within (eqb byte 2) _ _ (whole-within 33 (Full (at + 1)) (omega arith) (λ fits. omega arith))
+      (cond-within (eqb byte 3) _ _ (whole-within 34 (Part (getD tape (at + 1) 0) (at + 2)) (omega arith) (λ fits. omega arith))
+      (cond-within (eqb byte 4) _ _ (whole-within 1 Take (omega arith) (λ _. tt))
+      (cond-within (eqb byte 5) _ _ (whole-within 1 Stop (omega arith) (λ _. tt)) (refused-within _ _))))))
 
-  pub read-next : (command : Command) (next : ℕ) → readAt tape at ≡ Found command next → (at < next) × (next ≤ length tape)
+  pub read-next : (command : Command) (next : ℕ) → readAt tape at ≡ Found command next → (at < next) × (next ≤ length tape) × Inside tape command
   unfolding Within
   read-next = read-within

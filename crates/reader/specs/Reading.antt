@@ -1,7 +1,7 @@
 -- The commands of a tape, and what the reader answers at a place of it. Places count bytes from 0.
 use mathlib.Core.Bool.{cond}
 use mathlib.Core.List.{List}
-use Prim.Native.Nat.{ℕ, _+_, _*_}
+use Prim.Native.Nat.{ℕ, _+_, _*_, _≤_}
 use lib.Dec.{leb, eqb}
 use lib.ListN.{length, getD}
 use Rattle.reader.specs.declared.Command.{Command}
@@ -26,3 +26,11 @@ readBy tape at byte =
 -- What stands at a place. 11 at the tape's length: no byte is left.
 unfoldable pub readAt : List ℕ → ℕ → Reading
 readAt tape at = cond (leb (length tape) at) (Refused 11 (length tape)) (readBy tape at (getD tape at 0))
+
+-- The 32 bytes of a command lie within the tape.
+abbrev pub Inside : List ℕ → Command → Type 0
+Inside tape (Open width) = Unit {0}
+Inside tape (Full place) = place + 32 ≤ length tape
+Inside tape (Part count place) = place + 32 ≤ length tape
+Inside tape Take = Unit {0}
+Inside tape Stop = Unit {0}

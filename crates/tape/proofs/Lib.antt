@@ -1,0 +1,5 @@
+pub mod Runs
+pub mod Standings
+pub mod Clear
+pub mod Steps
+pub mod Reached
