@@ -2,7 +2,7 @@
 use mathlib.Core.List.{List, [], _∷_, _++_, append-assoc, append-nil}
 use mathlib.Core.Path.{_≡_, refl, sym, ap, _∙_}
 use Prim.Native.Nat.{ℕ, suc, _+_, _≤_, _<_}
-use native.Mathlib.Nat.{add-zero, add-assoc}
+use native.Mathlib.Nat.{add-zero, zero-add, add-assoc}
 use native.Mathlib.Numerals.{add-one}
 use native.Mathlib.Omega.{arith}
 use lib.ListN.{length, getD, take, drop, set, length-append, length-take, length-drop, take-append-drop}
@@ -82,3 +82,8 @@ wrote-more t x y a b m n first size second more fits =
       second ∙ (λ i. over (first i) (place i) b) ∙ over-over t 0 a b (omega arith),
       omega (arith, length-append a b),
     )
+
+-- A string written at the front of a part of the buffer.
+pub over-part : (t : List ℕ) (k : ℕ) (s : List ℕ) → k + length s ≤ length t → take k t ++ over (drop k t) 0 s ≡ over t k s
+over-part t k s fits =
+    rw (zero-add (length s), drop-drop (length s) k t) (sym (append-assoc (take k t) s (drop (k + length s) t)))

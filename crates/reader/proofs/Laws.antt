@@ -13,6 +13,21 @@ use Rattle.reader.specs.declared.Reading.{Reading}
 use Rattle.reader.specs.declared.Reading.the-variants.{Found, Refused}
 use Rattle.reader.specs.Reading.{whole, readBy, readAt, Inside}
 
+-- The bytes of a command.
+abbrev pub sizeOf : Command → ℕ
+sizeOf (Open width) = 3
+sizeOf (Full place) = 33
+sizeOf (Part count place) = 34
+sizeOf Take = 1
+sizeOf Stop = 1
+
+sized : (command : Command) → 0 < sizeOf command
+sized (Open width) = omega arith
+sized (Full place) = omega arith
+sized (Part count place) = omega arith
+sized Take = omega arith
+sized Stop = omega arith
+
 module _ (tape : List ℕ) (at : ℕ) where
   -- No byte is left.
   pub read-none : length tape ≤ at → readAt tape at ≡ Refused 11 (length tape)
@@ -37,9 +52,9 @@ module _ (tape : List ℕ) (at : ℕ) where
   pub read-short : (byte size : ℕ) (command : Command) → at < length tape → getD tape at 0 ≡ byte → readBy tape at byte ≡ whole tape at size command → length tape < at + size → Refused 11 at ≡ readAt tape at
   read-short byte size command here e by short = sym (read-byte byte here e ∙ by ∙ simp (lt-leb (at + size) (length tape) short))
 
-  -- A command found has a byte at least and lies within the tape, with its 32 bytes.
+  -- A command found lies within the tape, with its 32 bytes, and the next place is after its own bytes.
   Within : Reading → Type 0
-  Within reading = (command : Command) (next : ℕ) → reading ≡ Found command next → (at < next) × (next ≤ length tape) × Inside tape command
+  Within reading = (command : Command) (next : ℕ) → reading ≡ Found command next → (next ≡ at + sizeOf command) × (next ≤ length tape) × Inside tape command
 
   refused-within : (number place : ℕ) → Within (Refused number place)
   unfolding Within
@@ -51,29 +66,38 @@ module _ (tape : List ℕ) (at : ℕ) where
   cond-within true x y p q = p
   cond-within false x y p q = q
 
-  whole-by : (b : Bool) (size : ℕ) (found : Command) → leb (at + size) (length tape) ≡ b → 0 < size → (at + size ≤ length tape → Inside tape found) → Within (cond b (Found found (at + size)) (Refused 11 at))
+  whole-by : (b : Bool) (found : Command) → leb (at + sizeOf found) (length tape) ≡ b → (at + sizeOf found ≤ length tape → Inside tape found) → Within (cond b (Found found (at + sizeOf found)) (Refused 11 at))
   unfolding Within
-  whole-by true size found t some inside command next e =
-      let fits : at + size ≤ length tape = leb-true _ _ t in
-      let same : at + size ≡ next = cc in
+  whole-by true found t inside command next e =
+      let fits : at + sizeOf found ≤ length tape = leb-true _ _ t in
+      let same : at + sizeOf found ≡ next = cc in
       let this : found ≡ command = cc in
-      (omega arith, omega arith, subst (Inside tape) this (inside fits))
-  whole-by false size found t some inside command next e = refused-within 11 at command next e
+      (sym same ∙ ap (λ (c : Command). at + sizeOf c) this, omega arith, subst (Inside tape) this (inside fits))
+  whole-by false found t inside command next e = refused-within 11 at command next e
 
-  whole-within : (size : ℕ) (found : Command) → 0 < size → (at + size ≤ length tape → Inside tape found) → Within (whole tape at size found)
-  whole-within size found some inside = whole-by (leb (at + size) (length tape)) size found refl some inside
+  whole-within : (found : Command) → (at + sizeOf found ≤ length tape → Inside tape found) → Within (whole tape at (sizeOf found) found)
+  whole-within found inside = whole-by (leb (at + sizeOf found) (length tape)) found refl inside
 
   read-within : Within (readAt tape at)
   unfolding readAt
   read-within =
       let byte = getD tape at 0 in
       cond-within (leb (length tape) at) _ _ (refused-within _ _)
-      (cond-within (eqb byte 1) _ _ (whole-within 3 (Open (getD tape (at + 1) 0 + 256 * getD tape (at + 2) 0)) (omega arith) (λ _. tt))
-      (cond-within (eqb byte 2) _ _ (whole-within 33 (Full (at + 1)) (omega arith) (λ fits. omega arith))
-      (cond-within (eqb byte 3) _ _ (whole-within 34 (Part (getD tape (at + 1) 0) (at + 2)) (omega arith) (λ fits. omega arith))
-      (cond-within (eqb byte 4) _ _ (whole-within 1 Take (omega arith) (λ _. tt))
-      (cond-within (eqb byte 5) _ _ (whole-within 1 Stop (omega arith) (λ _. tt)) (refused-within _ _))))))
+      (cond-within (eqb byte 1) _ _ (whole-within (Open (getD tape (at + 1) 0 + 256 * getD tape (at + 2) 0)) (λ _. tt))
+      (cond-within (eqb byte 2) _ _ (whole-within (Full (at + 1)) (λ fits. omega arith))
+      (cond-within (eqb byte 3) _ _ (whole-within (Part (getD tape (at + 1) 0) (at + 2)) (λ fits. omega arith))
+      (cond-within (eqb byte 4) _ _ (whole-within Take (λ _. tt))
+      (cond-within (eqb byte 5) _ _ (whole-within Stop (λ _. tt)) (refused-within _ _))))))
 
-  pub read-next : (command : Command) (next : ℕ) → readAt tape at ≡ Found command next → (at < next) × (next ≤ length tape) × Inside tape command
-  unfolding Within
-  read-next = read-within
+  module _ (command : Command) (next : ℕ) (found : readAt tape at ≡ Found command next) where
+    pub read-size : next ≡ at + sizeOf command
+    unfolding Within
+    read-size = read-within command next found .0
+
+    pub read-next : (at < next) × (next ≤ length tape)
+    unfolding Within
+    read-next = (omega (arith, read-size, sized command), read-within command next found .1)
+
+    pub read-inside : Inside tape command
+    unfolding Within
+    read-inside = read-within command next found .2

@@ -3,3 +3,5 @@ pub mod Standings
 pub mod Clear
 pub mod Steps
 pub mod Reached
+pub mod Entries
+pub mod Done

@@ -34,7 +34,7 @@ after-ext f g tape at h (Found command next) e same =
 after-ext f g tape at h (Refused number place) e same = refl
 
 -- More commands than the tape has bytes left change nothing.
-enough : (m n : ℕ) (tape : List ℕ) (at : ℕ) (h : Hashing) → length tape < m + at → length tape < n + at → runFor m tape at h ≡ runFor n tape at h
+pub enough : (m n : ℕ) (tape : List ℕ) (at : ℕ) (h : Hashing) → length tape < m + at → length tape < n + at → runFor m tape at h ≡ runFor n tape at h
 unfolding runFor
 enough zero zero tape at h p q = refl
 enough zero (suc n) tape at h p q = ap (after (runFor n tape) tape at h) (sym (read-none tape at (omega arith)))

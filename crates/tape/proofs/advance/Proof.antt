@@ -6,7 +6,7 @@ use native.Mathlib.Omega.{arith}
 use borrow.Author.Needs.{needs}
 use lib.ListN.{length}
 use Rattle.reader.specs.declared.Reading.{Reading}
-use Rattle.reader.proofs.Laws.{read-next}
+use Rattle.reader.proofs.Laws.{read-next, read-inside}
 use Rattle.tape.specs.Standing.{endOf}
 use Rattle.tape.proofs.Reached.{Reached, reached-none, answers-refused, answers-step, answers-take, answers-stop, reached-next}
 use Rattle.tape.proofs.advance.Statement.{statement}
@@ -52,7 +52,7 @@ obey-requires : tie.Need-obey-requires Inv-loop μ-loop
 obey-requires c κs =
     let a = c .before .before .before .before .before .before .before .before .args in
     let l = c .before .before .before .before .loop in
-    read-next (a .tape .now) (l .at) _ _ (sym (c .before .before .before .read .ensures) ∙ c .before .reading .given .1) .2
+    read-inside (a .tape .now) (l .at) _ _ (sym (c .before .before .before .read .ensures) ∙ c .before .reading .given .1)
 
 same-length-2 : tie.Need-same-length-2 Inv-loop μ-loop
 same-length-2 c = search needs
