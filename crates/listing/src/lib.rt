@@ -1,106 +1,101 @@
-// The lines that `seal` prints, written into a lent text.
+// What `seal` prints, line by line.
 ghost use mathlib.Core.Path.{_≡_};
-ghost use mathlib.Core.List.{[], _∷_, _++_};
-ghost use Prim.Native.Nat.{_+_, _*_, _≤_, _<_};
+ghost use Prim.Native.Nat.{_+_, _≤_, _<_};
 ghost use lib.ListN.{length};
-ghost use Rattle.listing.specs.Text.{over, digits as digitsOf, decimal as decimalOf, glyph as glyphOf, hex as hexOf, digestLine, doneLine, refusedLine};
+ghost use Rattle.text.specs.Text.{over};
+ghost use Rattle.tape.specs.Run.{ended};
+ghost use Rattle.listing.specs.Listing.{sealed, lineOf, textOf, lastLine};
+ghost use Rattle.listing.specs.Ending.{endText, endLine};
+use tape::Next;
 
-// Line k of the digests: `digest`, k, the width, the digest and its quote.
-pub fn digest_line(text: &mut [u8], number: usize, width: u16, digest: &[u8]) -> usize
-    requires { ⌜ (192 ≤ length (now text)) × (4 ≤ length (now digest)) × (length (now digest) ≤ 64) ⌝ }
-    ensures { λ r. ⌜ (now (text .exit) ≡ over (now (text .entry)) 0 (digestLine number width (now (digest .entry)))) × (r ≡ length (digestLine number width (now (digest .entry)))) ⌝ }
-{
-    let a = put(text, 0, b"digest ");
-    let b = decimal(text, a, number as u64, 32);
-    let c = decimal(text, b, width as u64, 32);
-    let d = hex(text, c, digest, 32);
-    hex(text, d, &digest[..4], 10)
+// The line's bytes in the text, the place at which the next one starts, and whether there is a next one. `refusal` is 6 where the text lent
+// is too short for any line, and then all else is 0.
+pub struct Line {
+    pub refusal: u8,
+    pub length: usize,
+    pub next: usize,
+    pub more: bool,
 }
 
-pub fn done_line(text: &mut [u8], count: usize) -> usize
+// The line from a place at which no hash is open, after so many digests.
+pub fn next_line(tape: &[u8], at: usize, count: u32, text: &mut [u8]) -> Line
+    ensures { λ r. ⌜ (r ≡ lineOf (length (now (text .entry))) count (sealed (now (tape .entry)) at)) × (now (text .exit) ≡ textOf (now (text .entry)) count (sealed (now (tape .entry)) at)) ⌝ }
+{
+    if text.len() < 192 {
+        return Line {
+            refusal: 6,
+            length: 0,
+            next: 0,
+            more: false,
+        };
+    }
+    if 65536 < tape.len() {
+        return last(Next::Ended(13, 65536), count, text);
+    }
+    let mut digest = blank();
+    let found = tape::advance(tape, at, &mut digest);
+    let Next::Taken(width, next) = found else {
+        return last(found, count, text);
+    };
+    let size = wide(width / 8);
+    let length = text::digest_line(text, above(count), width, &digest[..size]);
+    Line {
+        refusal: 0,
+        length: length,
+        next: next,
+        more: true,
+    }
+}
+
+// The last line.
+fn last(end: Next, count: u32, text: &mut [u8]) -> Line
     requires { ⌜ 192 ≤ length (now text) ⌝ }
-    ensures { λ r. ⌜ (now (text .exit) ≡ over (now (text .entry)) 0 (doneLine count)) × (r ≡ length (doneLine count)) ⌝ }
+    ensures { λ r. ⌜ (r ≡ endLine end count) × (now (text .exit) ≡ over (now (text .entry)) 0 (endText end count)) ⌝ }
 {
-    let a = put(text, 0, b"done ");
-    decimal(text, a, count as u64, 10)
+    match end {
+        Next::Taken(_, _) => Line {
+            refusal: 0,
+            length: 0,
+            next: 0,
+            more: false,
+        },
+        Next::Ended(number, place) => {
+            let length = ending(number, place, count, text);
+            Line {
+                refusal: 0,
+                length: length,
+                next: 0,
+                more: false,
+            }
+        }
+    }
 }
 
-pub fn refused_line(text: &mut [u8], number: u8, place: usize) -> usize
+fn ending(number: u8, place: usize, count: u32, text: &mut [u8]) -> usize
     requires { ⌜ 192 ≤ length (now text) ⌝ }
-    ensures { λ r. ⌜ (now (text .exit) ≡ over (now (text .entry)) 0 (refusedLine number place)) × (r ≡ length (refusedLine number place)) ⌝ }
+    ensures { λ r. ⌜ (r ≡ length (lastLine count number place)) × (now (text .exit) ≡ over (now (text .entry)) 0 (lastLine count number place)) ⌝ }
 {
-    let a = put(text, 0, b"refused ");
-    let b = decimal(text, a, number as u64, 32);
-    let c = put(text, b, b"at ");
-    decimal(text, c, place as u64, 10)
-}
-
-// Each of these writes at a place and answers the place after.
-
-fn put(text: &mut [u8], at: usize, s: &[u8]) -> usize
-    requires { ⌜ at + length (now s) ≤ length (now text) ⌝ }
-    ensures { λ r. ⌜ (now (text .exit) ≡ over (now (text .entry)) at (now (s .entry))) × (r ≡ at + length (now (s .entry))) ⌝ }
-{
-    let mut i = 0;
-    while i < s.len() {
-        text[at + i] = s[i];
-        i += 1;
+    if number == 0 {
+        return text::done_line(text, count as usize);
     }
-    at + i
+    text::refused_line(text, number, place)
 }
 
-// A number and the byte after it.
-fn decimal(text: &mut [u8], at: usize, n: u64, end: u8) -> usize
-    requires { ⌜ at + 21 ≤ length (now text) ⌝ }
-    ensures { λ r. ⌜ (now (text .exit) ≡ over (now (text .entry)) at (decimalOf n ++ (end ∷ []))) × (r ≡ at + length (decimalOf n ++ (end ∷ []))) × (r ≤ at + 21) ⌝ }
+// Room for a digest.
+fn blank() -> [u8; 64]
+    ensures { λ r. ⌜ 64 ≡ length r ⌝ }
 {
-    let next = digits(text, at, 20, n);
-    text[next] = end;
-    next + 1
+    [0; 64]
 }
 
-fn digits(text: &mut [u8], at: usize, most: usize, n: u64) -> usize
-    requires { ⌜ at + most ≤ length (now text) ⌝ }
-    ensures { λ r. ⌜ (now (text .exit) ≡ over (now (text .entry)) at (digitsOf most n)) × (r ≡ at + length (digitsOf most n)) × (r ≤ at + most) ⌝ }
+fn wide(x: u16) -> usize
+    ensures { λ r. ⌜ r ≡ x ⌝ }
 {
-    if most == 0 {
-        return at;
-    }
-    if n < 10 {
-        text[at] = digit(n);
-        return at + 1;
-    }
-    let next = digits(text, at, most - 1, n / 10);
-    text[next] = digit(n % 10);
-    next + 1
+    x as usize
 }
 
-fn digit(d: u64) -> u8
-    requires { ⌜ d < 10 ⌝ }
-    ensures { λ r. ⌜ r ≡ 48 + d ⌝ }
+fn above(x: u32) -> usize
+    ensures { λ r. ⌜ r ≡ x + 1 ⌝ }
 {
-    48 + d as u8
-}
-
-// Bytes in hexadecimal and the byte after them.
-fn hex(text: &mut [u8], at: usize, bytes: &[u8], end: u8) -> usize
-    requires { ⌜ at + 2 * length (now bytes) + 1 ≤ length (now text) ⌝ }
-    ensures { λ r. ⌜ (now (text .exit) ≡ over (now (text .entry)) at (hexOf (now (bytes .entry)) ++ (end ∷ []))) × (r ≡ at + length (hexOf (now (bytes .entry)) ++ (end ∷ []))) × (r ≡ at + 2 * length (now (bytes .entry)) + 1) ⌝ }
-{
-    let mut i = 0;
-    while i < bytes.len() {
-        let b = bytes[i];
-        text[at + 2 * i] = glyph(b / 16);
-        text[at + 2 * i + 1] = glyph(b % 16);
-        i += 1;
-    }
-    text[at + 2 * i] = end;
-    at + 2 * i + 1
-}
-
-fn glyph(d: u8) -> u8
-    requires { ⌜ d < 16 ⌝ }
-    ensures { λ r. ⌜ r ≡ glyphOf d ⌝ }
-{
-    if d < 10 { 48 + d } else { 87 + d }
+    x as usize + 1
 }

@@ -26,13 +26,13 @@ bit-past bytes i past = List·getD-eq-default (bitsOf bytes) 0 {n = i} (omega (a
 bit-take : (k : ℕ) (bytes : List ℕ) (i : ℕ) → getD (bitsOf bytes) i 0 ≡ 0 → getD (bitsOf (take k bytes)) i 0 ≡ 0
 bit-take k bytes i none =
     elim (decLt (i / 8) k) [
-        yes below ↦
-            bit-at (take k bytes) i
-            ∙ ap (λ (b : ℕ). b / 2 ^ (7 - i % 8) % 2) (getD-take k bytes (i / 8) 0 below)
-            ∙ sym (bit-at bytes i)
-            ∙ none
+      | yes below ↦
+          bit-at (take k bytes) i
+          ∙ ap (λ (b : ℕ). b / 2 ^ (7 - i % 8) % 2) (getD-take k bytes (i / 8) 0 below)
+          ∙ sym (bit-at bytes i)
+          ∙ none
       | no past ↦ bit-past (take k bytes) i (omega (arith, length-take k bytes))
-      ]
+    ]
 
 -- All bits looked at were 0, or one was not.
 pub clear-all : (bytes : List ℕ) (n i : ℕ) → ((k : ℕ) → n ≤ k → k < i → getD (bitsOf bytes) k 0 ≡ 0) → length bytes ≤ i / 8 → true ≡ clear n bytes
@@ -41,9 +41,9 @@ clear-all bytes n i passed past =
     (clear-of n bytes
     (λ k from.
     elim (decLt k i) [
-        yes below ↦ passed k from below
+      | yes below ↦ passed k from below
       | no beyond ↦ bit-past bytes k (omega arith)
-      ]))
+    ]))
 
 clear-by : (b : Bool) (bytes : List ℕ) (n i : ℕ) → clear n bytes ≡ b → n ≤ i → (getD (bitsOf bytes) i 0 ≡ 0 → ⊥) → false ≡ b
 clear-by true bytes n i e from some = absurd (some (clear-at n bytes e i from))

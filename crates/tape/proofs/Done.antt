@@ -11,8 +11,8 @@ use lib.ListN.{length, take, drop, length-append, length-drop, drop-of-length-le
 use lib.Seq.{take-all}
 use Rattle.simd.specs.Basic.{isWidth}
 use Rattle.simd.specs.Hash.{digest}
-use Rattle.listing.specs.Text.{over}
-use Rattle.listing.proofs.Over.{over-nil, over-over, over-part}
+use Rattle.text.specs.Text.{over}
+use Rattle.text.proofs.Over.{over-nil, over-over, over-part}
 use Rattle.tape.specs.Run.{closed, Entry, Run, ended, first, runFrom, fit, within, output, ranOf, nextBy, nextOf, firstOutput}
 use Rattle.tape.specs.Standing.{closeOf}
 use Rattle.tape.specs.declared.Next.{Next}
@@ -35,7 +35,7 @@ pub within-ended : (room number place : ℕ) → within room (ended number place
 unfolding within fit
 within-ended room number place = refl
 
-within-fits : (room : ℕ) (e : Entry) (rest : Run) → e .width / 8 ≤ room → within room (first e rest) ≡ first e (within (room - e .width / 8) rest)
+pub within-fits : (room : ℕ) (e : Entry) (rest : Run) → e .width / 8 ≤ room → within room (first e rest) ≡ first e (within (room - e .width / 8) rest)
 unfolding within fit
 within-fits room e rest fits = rw (le-leb (e .width / 8) room fits)
 
@@ -59,7 +59,7 @@ module _ (tape : List ℕ) (at room : ℕ) where
       absurd (not-taken number place width next (ap (within room) e ∙ within-ended room number place) told)
   took-by width next told (some e known from below later) =
       elim (decLe (e .width / 8) room) [
-          yes fits ↦
+        | yes fits ↦
             let here = ap (within room) later ∙ within-fits room e (runFrom tape (e .place + 1) closed) fits in
             let this : Taken width next ≡ Taken (e .width) (e .place + 1) = told ∙ ap nextOf here in
             let w : e .width ≡ width = cc in
@@ -77,7 +77,7 @@ module _ (tape : List ℕ) (at room : ℕ) where
         | no short ↦
             absurd
             (not-taken 6 (e .place) width next (ap (within room) later ∙ within-short room e (runFrom tape (e .place + 1) closed) (omega arith)) told)
-        ]
+      ]
 
   pub took : (width next : ℕ) → Taken width next ≡ nextOf run → Took tape at room run width next
   took width next told = took-by width next told (run-first tape at)
@@ -200,12 +200,11 @@ module _ (tape out₀ out : List ℕ) (at used digests room : ℕ) (d : Done tap
       × (out ≡ over out₀ 0 (output (within (length out₀) (runFrom tape 0 closed) .entries)))
   done-end number place told =
       let rest : within (length out₀) (runFrom tape 0 closed) ≡ onto (d .entries) (ended number place) =
-          d .same
-          ∙ ap (λ (k : ℕ). onto (d .entries) (within k (runFrom tape at closed))) (sym left)
-          ∙ ap (onto (d .entries)) (ended-run tape at room number place told) in
+      d .same
+      ∙ ap (λ (k : ℕ). onto (d .entries) (within k (runFrom tape at closed))) (sym left)
+      ∙ ap (onto (d .entries)) (ended-run tape at room number place told) in
       let all : d .entries ++ [] ≡ d .entries = append-nil (d .entries) in
-      let count : digests ≡ length (d .entries ++ []) = d .count ∙ ap length (sym all) in
-      (
+      let count : digests ≡ length (d .entries ++ []) = d .count ∙ ap length (sym all) in (
         (λ i. record { digests = count i; refusal = number; place = place }) ∙ ap ranOf (sym rest),
         d .buffer ∙ ap (λ (l : List Entry). over out₀ 0 (output l)) (sym all ∙ ap (λ (r : Run). r .entries) (sym rest)),
       )

@@ -17,8 +17,8 @@ use Rattle.simd.specs.Hash.{digest}
 use Rattle.hash.specs.Zero.{clear}
 use Rattle.hash.specs.Open.{limit}
 use Rattle.hash.specs.declared.Hash.{Hash}
-use Rattle.listing.specs.Text.{over}
-use Rattle.listing.proofs.Over.{over-nil}
+use Rattle.text.specs.Text.{over}
+use Rattle.text.proofs.Over.{over-nil}
 use Rattle.reader.specs.declared.Command.{Command}
 use Rattle.reader.specs.declared.Command.the-variants.{Open, Full, Part, Take, Stop}
 use Rattle.reader.specs.declared.Reading.{Reading}
@@ -92,7 +92,7 @@ answers-taken : (e : Entry) (rest : Run) (out exit : List ℕ) (next : Next) →
 unfolding within fit output
 answers-taken e rest out exit next f =
     elim (decLe (e .width / 8) (length out)) [
-        yes room ↦
+      | yes room ↦
           let t = le-leb (e .width / 8) (length out) room in
           record {
             answer = f .answer ∙ rw t;
@@ -101,7 +101,7 @@ answers-taken e rest out exit next f =
       | no short ↦
           let t = lt-leb (e .width / 8) (length out) (omega arith) in
           record { answer = f .answer ∙ rw t; buffer = f .buffer ∙ rw t (sym (over-nil out 0)) }
-      ]
+    ]
 
 module _ (tape : List ℕ) (from at : ℕ) (hash : Hash) (r : Reached tape from at hash) where
   -- The reader refuses.

@@ -24,7 +24,7 @@ use Rattle.hash.specs.declared.Fed.{Fed}
 use Rattle.hash.proofs.Holding.{Sized, held-state, held-tail, held-legal}
 use Rattle.hash.proofs.Feeding.{Whole, held-sized, advanced-sized, advanced-legal, advanced-append, advanced-none, fed-whole, length-message, bits-message, final-advanced, at-widths, start-length}
 use Rattle.hash.proofs.Theorems.{open-known, digest-length}
-use Rattle.listing.specs.Text.{over}
+use Rattle.text.specs.Text.{over}
 use Rattle.tape.specs.Run.{Hashing, closed, Effect, goes, refuses, feeding}
 use Rattle.tape.specs.Standing.{Stands, StandsFor, Steps}
 use Rattle.tape.specs.declared.Step.{Step}
@@ -129,11 +129,10 @@ module _ (width : ℕ) (m : List ℕ) (hash : Hash) (s : Stands width m hash) wh
 
     pub take-fits : width / 8 ≤ length out → (takeAnswer hash out .refusal ≡ 0) × (written (takeRefusal hash out) (digestOf hash) out ≡ over out 0 (digest width m))
     unfolding takeAnswer taken written
-    take-fits room =
-        (
-          rw (fits-refusal room),
-          rw (fits-refusal room, stands-digest, zero-add (length (digest width m))),
-        )
+    take-fits room = (
+      rw (fits-refusal room),
+      rw (fits-refusal room, stands-digest, zero-add (length (digest width m))),
+    )
 
     pub take-short : length out < width / 8 → (takeAnswer hash out .refusal ≡ 6) × (written (takeRefusal hash out) (digestOf hash) out ≡ out)
     unfolding takeAnswer taken written
@@ -144,8 +143,7 @@ module _ (width : ℕ) (m : List ℕ) (hash : Hash) (s : Stands width m hash) wh
     joins : length m + count ≤ limit → (feedAnswer hash piece count .refusal ≡ 0) × Stands width (m ++ message piece count) (feedAnswer hash piece count .hash)
     joins room =
         let size = length-message piece count (whole .within) in
-        let accepted = fed-whole hash piece count stands-legal whole (omega (arith, stands-bits)) in
-        (
+        let accepted = fed-whole hash piece count stands-legal whole (omega (arith, stands-bits)) in (
           ap (λ (a : Fed). a .refusal) accepted,
           record {
             known = s .known;
@@ -169,9 +167,9 @@ module _ (width : ℕ) (m : List ℕ) (hash : Hash) (s : Stands width m hash) wh
     steps-by =
         let size = length-message piece count (whole .within) in
         elim (decLe (length m + count) limit) [
-            yes room ↦ rw (size, le-leb (length m + count) limit room) (joins room)
+          | yes room ↦ rw (size, le-leb (length m + count) limit room) (joins room)
           | no over ↦ rw (size, lt-leb (length m + count) limit (omega arith)) (too-long (omega arith), lit< tt)
-          ]
+        ]
 
     pub feed-steps : (a : Fed) → a ≡ feedAnswer hash piece count → Steps (feeding width m (message piece count)) (record { hash = a .hash; refusal = a .refusal })
     feed-steps a e = rw e steps-by

@@ -17,7 +17,7 @@ use Rattle.hash.specs.declared.Hash.{Hash}
 use Rattle.hash.specs.declared.Opened.{Opened}
 use Rattle.hash.specs.declared.Fed.{Fed}
 use Rattle.hash.specs.declared.Taken.{Taken as Took}
-use Rattle.listing.specs.Text.{over}
+use Rattle.text.specs.Text.{over}
 use Rattle.reader.specs.declared.Command.{Command}
 use Rattle.reader.specs.declared.Command.the-variants.{Open, Full, Part, Take, Stop}
 use Rattle.tape.specs.Run.{Hashing, closed, opened, Effect, refuses, effect, feeding, piece}
@@ -91,16 +91,16 @@ module _ (hash : Hash) (at : ℕ) (out exit : List ℕ) (a : Took) (e : a ≡ ta
   pub finish-none : (a .refusal ≡ 0 → ⊥) → Finishes hash at out exit (Ended 6 at)
   finish-none refused w m st =
       elim (decLe (w / 8) (length out)) [
-          yes room ↦ absurd (refused (number ∙ take-fits w m hash st out room .0))
+        | yes room ↦ absurd (refused (number ∙ take-fits w m hash st out room .0))
         | no short ↦
             let less : length out < w / 8 = omega arith in
             record { answer = rw (lt-leb (w / 8) (length out) less); buffer = rw (lt-leb (w / 8) (length out) less) (x ∙ take-short w m hash st out less .1) }
-        ]
+      ]
 
   pub finish-some : a .refusal ≡ 0 → Finishes hash at out exit (Taken (hash .width) (at + 1))
   finish-some accepted w m st =
       elim (decLe (w / 8) (length out)) [
-          yes room ↦
+        | yes room ↦
             record {
               answer = rw (le-leb (w / 8) (length out) room, stands-width w m hash st);
               buffer = rw (le-leb (w / 8) (length out) room) (x ∙ take-fits w m hash st out room .1);
@@ -109,4 +109,4 @@ module _ (hash : Hash) (at : ℕ) (out exit : List ℕ) (a : Took) (e : a ≡ ta
             let less : length out < w / 8 = omega arith in
             let six : _≡_ {A = ℕ} 0 6 = sym accepted ∙ number ∙ take-short w m hash st out less .0 in
             absurd (omega arith)
-        ]
+      ]

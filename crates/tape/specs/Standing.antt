@@ -10,7 +10,7 @@ use Rattle.simd.specs.Constants.{start}
 use Rattle.simd.specs.Hash.{digest}
 use Rattle.hash.specs.declared.Hash.{Hash}
 use Rattle.hash.specs.Open.{limit, holding, advanced}
-use Rattle.listing.specs.Text.{over}
+use Rattle.text.specs.Text.{over}
 use Rattle.reader.specs.declared.Command.{Command}
 use Rattle.reader.specs.declared.Command.the-variants.{Open, Full, Part, Take, Stop}
 use Rattle.reader.specs.declared.Reading.{Reading}

@@ -6,7 +6,7 @@ ghost use Prim.Native.Nat.{_+_, _*_, _-_, _/_, _%_, _^_, _≤_, _<_};
 ghost use lib.ListN.{length};
 ghost use Rattle.simd.specs.Message.{bitsOf, message};
 ghost use Rattle.hash.specs.Zero.{clear as clearOf};
-ghost use Rattle.listing.specs.Text.{over};
+ghost use Rattle.text.specs.Text.{over};
 ghost use Rattle.reader.specs.Reading.{Inside};
 ghost use Rattle.reader.specs.declared.Command.the-variants.{Open, Full, Part, Take};
 ghost use Rattle.tape.specs.Run.{Hashing, closed, opened, effect, after as afterReading, runFrom, within, output, ranOf, nextOf, firstOutput, piece};

@@ -116,8 +116,7 @@ loop-again c =
     let a = c .before .before .before .before .before .before .before .before .before .before .before .before .args in
     let l = c .before .before .before .before .before .before .before .before .loop in
     let found = sym (c .before .before .before .before .before .before .before .read .ensures) ∙ c .before .before .before .before .before .reading .given .1 in
-    let obeyed = c .before .before .before .obey in
-    (
+    let obeyed = c .before .before .before .obey in (
       l .inv .0,
       reached-next (a .tape .now) (a .from) (l .at) (l .hash) (l .inv .1) _ _ found (obeyed .result) (obeyed .ensures) (c .match2 .keys3) (c .before .before .if1 .left),
     )

@@ -42,17 +42,16 @@ loop-again : tie.Need-loop-again Inv-loop μ-loop
 loop-again c =
     let a = c .before .before .before .before .before .before .args in
     let l = c .before .before .before .before .loop in
-    let here : getD (bitsOf (a .bytes .now)) (l .i) 0 ≡ 0 = bit-at (a .bytes .now) (l .i) ∙ sym (c .before .bit .ensures) ∙ c .if1 .left in
-    (
+    let here : getD (bitsOf (a .bytes .now)) (l .i) 0 ≡ 0 = bit-at (a .bytes .now) (l .i) ∙ sym (c .before .bit .ensures) ∙ c .if1 .left in (
       omega arith,
       omega arith,
       λ k from below.
-      elim (decLt k (l .i)) [
-          yes passed ↦ l .inv .2 k from passed
-        | no not ↦
-            let same : k ≡ l .i = omega arith in
-            rw same here
-        ],
+          elim (decLt k (l .i)) [
+            | yes passed ↦ l .inv .2 k from passed
+            | no not ↦
+                let same : k ≡ l .i = omega arith in
+                rw same here
+          ],
     )
 
 returns-2 : tie.Need-returns-2 Inv-loop μ-loop

@@ -5,8 +5,8 @@ use Prim.Native.Nat.{ℕ, _+_, _-_, _/_, _≤_}
 use native.Mathlib.Omega.{arith}
 use borrow.Author.Needs.{needs}
 use lib.ListN.{length, take, drop, length-drop}
-use Rattle.listing.specs.Text.{over}
-use Rattle.listing.proofs.Over.{over-nil, length-over}
+use Rattle.text.specs.Text.{over}
+use Rattle.text.proofs.Over.{over-nil, length-over}
 use Rattle.tape.specs.Run.{closed, runFrom, within, nextOf, firstOutput}
 use Rattle.tape.specs.Standing.{closeOf}
 use Rattle.tape.specs.declared.Next.{Next}
@@ -59,13 +59,12 @@ returns c =
     let told = c .before .enum-told .given .1 in
     let answer = sym told ∙ call .ensures .0 in
     let done = done-end (a .tape .now) (a .out .now) x (l .at) (l .used) (l .digests) _ (l .inv .1) left _ _ answer in
-    let none = none-written (a .tape .now) (a .out .now) x (l .at) (l .used) (l .digests) _ (l .inv .1) left _ _ answer in
-    (
+    let none = none-written (a .tape .now) (a .out .now) x (l .at) (l .used) (l .digests) _ (l .inv .1) left _ _ answer in (
       c .closing .ensures ∙ ap (λ (n : Next). closeOf n (l .digests)) told ∙ done .0,
       part-back x (l .used) _ (call .last .1 .1 .0) (omega (arith, ap length none, l .inv .1 .room, l .inv .0)) (call .ensures .1)
-      ∙ ap (over x (l .used)) none
-      ∙ over-nil x (l .used)
-      ∙ done .1,
+          ∙ ap (over x (l .used)) none
+          ∙ over-nil x (l .used)
+          ∙ done .1,
     )
 
 wide-requires : tie.Need-wide-requires Inv-loop μ-loop

@@ -1,9 +1,9 @@
--- `listing::glyph` meets its contract.
+-- `text::glyph` meets its contract.
 use borrow.Author.Tests.{lt-ltb, le-ltb}
-use Rattle.listing.specs.Text.{glyph as glyphOf}
+use Rattle.text.specs.Text.{glyph as glyphOf}
 use borrow.Author.Needs.{needs}
-use Rattle.listing.proofs.glyph.Statement.{statement}
-use Rattle.listing.proofs.glyph.Tie as tie
+use Rattle.text.proofs.glyph.Statement.{statement}
+use Rattle.text.proofs.glyph.Tie as tie
 
 add-result : tie.Need-add-result
 add-result c = search needs

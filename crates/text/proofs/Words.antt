@@ -10,7 +10,7 @@ use borrow.Author.Tests.{lt-ltb, le-ltb}
 use lib.Dec.{ltb}
 use lib.ListN.{length, getD, take, length-append}
 use lib.Seq.{take-suc, take-all}
-use Rattle.listing.specs.Text.{digits, decimal, glyph, hex, line, digestWord, doneWord, refusedWord, atWord, digestLine, doneLine, refusedLine}
+use Rattle.text.specs.Text.{digits, decimal, glyph, hex, line, digestWord, doneWord, refusedWord, atWord, digestLine, doneLine, refusedLine}
 
 -- The two digits of a byte.
 abbrev pub pair : ℕ → List ℕ

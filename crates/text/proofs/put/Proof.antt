@@ -1,4 +1,4 @@
--- `listing::put` meets its contract: after i turns the first i bytes of the string stand at the place.
+-- `text::put` meets its contract: after i turns the first i bytes of the string stand at the place.
 use mathlib.Core.Path.{_≡_, refl, sym, ap, _∙_}
 use mathlib.Core.List.{List}
 use Prim.Native.Nat.{ℕ, _+_, _-_, _≤_}
@@ -6,10 +6,10 @@ use native.Mathlib.Omega.{arith}
 use borrow.Author.Needs.{needs}
 use denote.Ref.{now}
 use lib.ListN.{length, getD, take, set, length-set}
-use Rattle.listing.specs.Text.{over}
-use Rattle.listing.proofs.Over.{over-nil, length-over, over-more, over-all}
-use Rattle.listing.proofs.put.Statement.{statement}
-use Rattle.listing.proofs.put.Tie as tie
+use Rattle.text.specs.Text.{over}
+use Rattle.text.proofs.Over.{over-nil, length-over, over-more, over-all}
+use Rattle.text.proofs.put.Statement.{statement}
+use Rattle.text.proofs.put.Tie as tie
 
 abbrev Inv-loop : tie.InvT-loop
 Inv-loop text₀ at s i₀ text i = (i ≤ length s) × (length text ≡ length text₀) × (text ≡ over text₀ at (take i s))

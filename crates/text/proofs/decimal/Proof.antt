@@ -1,14 +1,14 @@
--- `listing::decimal` meets its contract.
+-- `text::decimal` meets its contract.
 use mathlib.Core.Path.{_≡_, ap, _∙_}
 use mathlib.Core.List.{List, [], _∷_}
 use Prim.Native.Nat.{ℕ}
 use native.Mathlib.Omega.{arith}
 use lib.ListN.{length, set, length-append}
-use Rattle.listing.specs.Text.{over, decimal as decimalOf}
-use Rattle.listing.proofs.Over.{over-byte}
+use Rattle.text.specs.Text.{over, decimal as decimalOf}
+use Rattle.text.proofs.Over.{over-byte}
 use borrow.Author.Needs.{needs}
-use Rattle.listing.proofs.decimal.Statement.{statement}
-use Rattle.listing.proofs.decimal.Tie as tie
+use Rattle.text.proofs.decimal.Statement.{statement}
+use Rattle.text.proofs.decimal.Tie as tie
 
 digits-requires : tie.Need-digits-requires
 digits-requires c κs = search needs

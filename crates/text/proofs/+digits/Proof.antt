@@ -1,22 +1,22 @@
--- `listing::digits` meets its contract: the last digit stands after those of a tenth of the number, of which there may be one fewer.
+-- `text::digits` meets its contract: the last digit stands after those of a tenth of the number, of which there may be one fewer.
 use mathlib.Core.Path.{_≡_, refl, sym, ap, _∙_}
 use mathlib.Core.List.{List, [], _∷_, _++_}
 use Prim.Native.Nat.{_+_, _-_, _/_, _%_, _≤_}
 use native.Mathlib.Omega.{arith}
 use lib.ListN.{length, set, length-set, length-append}
-use Rattle.listing.specs.Text.{over, digits as digitsOf}
-use Rattle.listing.proofs.Over.{over-nil, length-over, over-byte}
-use Rattle.listing.proofs.Words.{digits-le, digits-none, digits-last, digits-more}
+use Rattle.text.specs.Text.{over, digits as digitsOf}
+use Rattle.text.proofs.Over.{over-nil, length-over, over-byte}
+use Rattle.text.proofs.Words.{digits-le, digits-none, digits-last, digits-more}
 use borrow.Author.Needs.{needs}
 use Prim.Native.Nat.{ℕ, _<_}
 use borrow.Fn.Kinds.{In}
 use borrow.Fn.PlainCycle.{Measures, is, falls, and}
-use Rattle.listing.proofs.digit.Reads as digit-reads
-use Rattle.listing.proofs.digits.Reads as digits
-use Rattle.listing.proofs.digits.Kinds as digits-kinds
-use Rattle.listing.proofs.+digits.Lts-digits as digits-lts
-use Rattle.listing.proofs.+digits.{statement}
-use Rattle.listing.proofs.+digits.Tie.{close}
+use Rattle.text.proofs.digit.Reads as digit-reads
+use Rattle.text.proofs.digits.Reads as digits
+use Rattle.text.proofs.digits.Kinds as digits-kinds
+use Rattle.text.proofs.+digits.Lts-digits as digits-lts
+use Rattle.text.proofs.+digits.{statement}
+use Rattle.text.proofs.+digits.Tie.{close}
 
 abbrev μ-digits : Measures 1 digits-kinds.ps ℕ
 μ-digits κs a = a .1 .1 .0

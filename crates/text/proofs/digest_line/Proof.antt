@@ -1,15 +1,15 @@
--- `listing::digest_line` meets its contract: each call writes straight after what the calls before it wrote.
+-- `text::digest_line` meets its contract: each call writes straight after what the calls before it wrote.
 use mathlib.Core.Path.{_≡_, sym, ap, _∙_}
 use mathlib.Core.List.{List, _++_}
 use native.Mathlib.Omega.{arith}
 use lib.ListN.{length, take}
 use lib.Seq.{length-take-le}
-use Rattle.listing.specs.Text.{over, decimal as decimalOf, hex as hexOf, digestWord}
-use Rattle.listing.proofs.Over.{wrote-more}
-use Rattle.listing.proofs.Words.{spaced, ended, digest-line}
+use Rattle.text.specs.Text.{over, decimal as decimalOf, hex as hexOf, digestWord}
+use Rattle.text.proofs.Over.{wrote-more}
+use Rattle.text.proofs.Words.{spaced, ended, digest-line}
 use borrow.Author.Needs.{needs}
-use Rattle.listing.proofs.digest_line.Statement.{statement}
-use Rattle.listing.proofs.digest_line.Tie as tie
+use Rattle.text.proofs.digest_line.Statement.{statement}
+use Rattle.text.proofs.digest_line.Tie as tie
 
 slice-aggregate-put : tie.Need-slice-aggregate-put
 slice-aggregate-put c = search needs

@@ -7,7 +7,7 @@ use native.Mathlib.Numerals.{add-one}
 use native.Mathlib.Omega.{arith}
 use lib.ListN.{length, getD, take, drop, set, length-append, length-take, length-drop, take-append-drop}
 use lib.Seq.{length-take-le, take-at, drop-cons, drop-drop, drop-append-add, set-at, append-snoc, take-suc, take-all}
-use Rattle.listing.specs.Text.{over}
+use Rattle.text.specs.Text.{over}
 
 module _ (t : List ℕ) (at : ℕ) where
   pub over-nil : over t at [] ≡ t

@@ -1,1 +1,0 @@
--- What `seal` prints.
