@@ -205,7 +205,7 @@ module _ (tape : List ℕ) (at count room : ℕ) (fits : 192 ≤ room) where
   line-ends end = end-by end (shape tape at)
 
 -- A line lies within the text lent.
-by-length : (line : List ℕ) (entries : List Entry) → lineBy line entries .length ≡ length line
+pub by-length : (line : List ℕ) (entries : List Entry) → lineBy line entries .length ≡ length line
 by-length line [] = refl
 by-length line (e ∷ entries) = refl
 
