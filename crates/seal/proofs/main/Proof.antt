@@ -1,3 +1,11 @@
+-- `seal::main` is safe and ends: what was read lies within the tape's room.
+use mathlib.Core.Path.{_≡_, sym, subst}
+use Prim.Native.Nat.{ℕ, _≤_}
+use native.Mathlib.Omega.{arith}
+use lib.ListN.{length, take}
+use lib.Seq.{length-take-le}
+use Rattle.seal.specs.Input.{Within}
+use Rattle.seal.specs.declared.Input.{Input}
 use borrow.Author.Needs.{needs}
 use Rattle.seal.proofs.main.Statement.{statement}
 use Rattle.seal.proofs.main.Tie as tie
@@ -29,17 +37,28 @@ returns c = search needs
 page-requires : tie.Need-page-requires
 page-requires c κs = search needs
 
+-- The bytes read.
+size : (c : tie.After-page) → c .before .before .input .given .0 .0 ≤ length (c .before .before .before .before .before .read-tape .last .0)
+size c =
+    let call = c .before .before .before .before .before .read-tape in
+    subst (λ (i : Input). Within i (length (call .last .0))) (c .before .before .input .given .1) (call .ensures)
+
 array-share-prefix-tape : tie.Need-array-share-prefix-tape
-array-share-prefix-tape c = ?
+array-share-prefix-tape c = size c
 
 slice-aggregate-print : tie.Need-slice-aggregate-print
-slice-aggregate-print c = ?
+slice-aggregate-print c = sym (length-take-le (c .before .before .before .input .given .0 .0) (c .before .before .before .before .before .before .read-tape .last .0) (size (c .before)))
 
 slice-aggregate-print-2 : tie.Need-slice-aggregate-print-2
 slice-aggregate-print-2 c = search needs
 
 print-requires : tie.Need-print-requires
-print-requires c κs = ?
+print-requires c κs =
+    let read = c .before .before .before .before .before .before .before .read-tape in
+    (
+      omega (arith, length-take-le (c .before .before .before .before .input .given .0 .0) (read .last .0) (size (c .before .before)), size (c .before .before), read .kept .0, c .before .before .before .before .before .before .before .before .before .room .ensures),
+      sym (c .before .before .page .ensures),
+    )
 
 returns-2 : tie.Need-returns-2
 returns-2 c = search needs
