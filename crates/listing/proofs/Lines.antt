@@ -1,11 +1,11 @@
 -- Laws of lines, and the theorem that the lines in turn are the listing.
-use mathlib.Core.Bool.{Bool, true, false, cond}
+use mathlib.Core.Bool.{true, false}
 use mathlib.Core.List.{List, [], _∷_, _++_, append-nil}
 use mathlib.Core.Path.{_≡_, refl, sym, ap, _∙_, subst}
 use Prim.Native.Nat.{ℕ, _+_, _-_, _/_, _≤_, _<_}
 use native.Mathlib.Omega.{arith}
 use borrow.Author.Tests.{le-leb, lt-leb}
-use lib.Dec.{T, leb, lit≤}
+use lib.Dec.{T, lit≤}
 use native.Mathlib.Decide.{decLe}
 use lib.ListN.{length, take, drop, length-append, length-drop}
 use lib.Seq.{take-at}
@@ -15,11 +15,10 @@ use Rattle.hash.proofs.Feeding.{at-widths}
 use Rattle.text.specs.Text.{over, digestLine}
 use Rattle.text.proofs.Over.{length-over}
 use Rattle.tape.specs.Run.{closed, Entry, Run, ended, first, runFrom, within, nextOf, firstOutput, output}
-use Rattle.tape.specs.declared.Next.{Next}
 use Rattle.tape.specs.declared.Next.the-variants.{Taken, Ended}
 use Rattle.tape.proofs.Entries.{First, none, some, run-first, length-digest}
 use Rattle.tape.proofs.Done.{within-ended, within-fits}
-use Rattle.listing.specs.Listing.{sealed, lastLine, firstLine, linesBy, lines, listing, lineBy, lineOf, textOf}
+use Rattle.listing.specs.Listing.{sealed, firstLine, linesBy, lines, lineBy, lineOf, textOf}
 use Rattle.listing.specs.Ending.{endText, endLine}
 use Rattle.listing.specs.declared.Line.{Line}
 

@@ -1,20 +1,18 @@
 -- Lines gathered in a text and handed on: what was handed on, what the text holds and what is still to come make the listing.
-use mathlib.Core.Bool.{Bool, true, false, cond}
-use mathlib.Core.List.{List, [], _∷_, _++_, append-assoc, append-nil}
+use mathlib.Core.Bool.{true, false}
+use mathlib.Core.List.{List, [], _++_, append-assoc, append-nil}
 use mathlib.Core.Path.{_≡_, refl, sym, ap, _∙_}
 use Prim.Native.Nat.{ℕ, _+_, _-_, _≤_, _<_}
 use native.Mathlib.Omega.{arith}
 use borrow.Author.Tests.{le-leb}
-use lib.Dec.{leb}
 use lib.ListN.{length, take, drop, length-append, length-drop}
 use lib.Seq.{length-take-le, take-at}
 use Rattle.text.specs.Text.{over}
 use Rattle.text.proofs.Over.{length-over}
-use Rattle.tape.specs.Run.{Entry, Run}
 use Rattle.tape.proofs.Done.{part-all, part-back}
-use Rattle.listing.specs.Listing.{sealed, firstLine, lines, listing, lineBy, lineOf, textOf}
+use Rattle.listing.specs.Listing.{sealed, firstLine, lines, listing, lineOf, textOf}
 use Rattle.listing.specs.declared.Line.{Line}
-use Rattle.listing.proofs.Lines.{Continues, Ends, line-more, line-ends, line-inside, by-length}
+use Rattle.listing.proofs.Lines.{line-more, line-ends, line-inside, by-length}
 
 pub record Printing (tape text : List ℕ) (used at count : ℕ) : Type 0 where
   pub room : used ≤ length text

@@ -3,7 +3,6 @@ ghost use mathlib.Core.Path.{_≡_};
 ghost use Prim.Native.Nat.{_+_, _≤_, _<_};
 ghost use lib.ListN.{length};
 ghost use Rattle.text.specs.Text.{over};
-ghost use Rattle.tape.specs.Run.{ended};
 ghost use Rattle.listing.specs.Listing.{sealed, lineOf, textOf, lastLine};
 ghost use Rattle.listing.specs.Ending.{endText, endLine};
 use tape::Next;

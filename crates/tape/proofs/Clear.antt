@@ -3,13 +3,12 @@ use mathlib.Core.Bool.{Bool, true, false}
 use mathlib.Core.List.{List}
 use mathlib.Core.Path.{_≡_, refl, sym, ap, _∙_}
 use Prim.Native.Nat.{ℕ, _+_, _*_, _-_, _/_, _%_, _^_, _≤_, _<_}
-use native.Mathlib.Nat.{zero-div, zero-mod}
 use native.Mathlib.Omega.{arith}
 use native.Mathlib.Decide.{decLt}
-use lib.ListN.{length, getD, take, drop, length-take, List·getD-eq-default}
+use lib.ListN.{length, getD, take, length-take, List·getD-eq-default}
 use lib.Seq.{getD-take, take-all}
 use Rattle.simd.specs.Message.{bitsOf, message}
-use Rattle.laws.proofs.Bits.{length-bitsOf, getD-bitsOf, getD-take-past}
+use Rattle.laws.proofs.Bits.{length-bitsOf, getD-bitsOf}
 use Rattle.hash.specs.Zero.{clear}
 use Rattle.hash.proofs.Zeros.{clear-at, clear-of}
 use Rattle.hash.proofs.Feeding.{Whole}

@@ -1,9 +1,9 @@
 -- The digests written so far, and the rest of the run.
-use mathlib.Core.Bool.{Bool, true, false, cond}
+use mathlib.Core.Bool.{true}
 use mathlib.Core.List.{List, [], _∷_, _++_, append-assoc, append-nil}
 use mathlib.Core.Path.{_≡_, refl, sym, ap, _∙_}
-use Prim.Native.Nat.{ℕ, zero, suc, _+_, _-_, _/_, _≤_, _<_}
-use native.Mathlib.Nat.{zero-add, sub-zero}
+use Prim.Native.Nat.{ℕ, _+_, _-_, _/_, _≤_, _<_}
+use native.Mathlib.Nat.{sub-zero}
 use native.Mathlib.Omega.{arith}
 use native.Mathlib.Decide.{decLe}
 use borrow.Author.Tests.{le-leb, lt-leb}
@@ -15,9 +15,7 @@ use Rattle.text.specs.Text.{over}
 use Rattle.text.proofs.Over.{over-nil, over-over, over-part}
 use Rattle.tape.specs.Run.{closed, Entry, Run, ended, first, runFrom, fit, within, output, ranOf, nextBy, nextOf, firstOutput}
 use Rattle.tape.specs.Standing.{closeOf}
-use Rattle.tape.specs.declared.Next.{Next}
 use Rattle.tape.specs.declared.Next.the-variants.{Taken, Ended}
-use Rattle.tape.specs.declared.Ran.{Ran}
 use Rattle.tape.proofs.Entries.{First, none, some, run-first, length-digest}
 
 -- The first TAKE of a run with so much room.

@@ -1,13 +1,11 @@
 -- Laws of the TAKEs of a run: the first, and the run after it.
 use mathlib.Core.Bool.{Bool, true, false, cond}
-use mathlib.Core.List.{List, [], _∷_, _++_}
-use mathlib.Core.Path.{_≡_, refl, sym, ap, _∙_}
-use Prim.Native.Nat.{ℕ, zero, suc, _+_, _*_, _-_, _/_, _≤_, _<_}
+use mathlib.Core.List.{List}
+use mathlib.Core.Path.{_≡_, refl, ap, _∙_}
+use Prim.Native.Nat.{ℕ, zero, suc, _+_, _*_, _/_, _≤_, _<_}
 use native.Mathlib.Omega.{arith}
-use native.Mathlib.Decide.{decLe}
-use borrow.Author.Tests.{le-leb, lt-leb}
 use lib.Dec.{leb, lit≤}
-use lib.ListN.{length, take, length-take}
+use lib.ListN.{length, length-take}
 use Rattle.simd.specs.Basic.{familyOf, isWidth, stateWords, bytesOf}
 use Rattle.simd.specs.Constants.{start}
 use Rattle.simd.specs.Message.{bitsOf, message, messageBlocks, lengthBlock}
@@ -22,8 +20,8 @@ use Rattle.reader.specs.declared.Command.the-variants.{Open, Full, Part, Take, 
 use Rattle.reader.specs.declared.Reading.{Reading}
 use Rattle.reader.specs.declared.Reading.the-variants.{Found, Refused}
 use Rattle.reader.specs.Reading.{readAt}
-use Rattle.reader.proofs.Laws.{read-next, read-size}
-use Rattle.tape.specs.Run.{Hashing, closed, opened, Effect, goes, takes, stops, refuses, effect, feeding, piece, Entry, Run, ended, first, follow, after, runFor, runFrom, fit, within}
+use Rattle.reader.proofs.Laws.{sizeOf, read-next, read-size}
+use Rattle.tape.specs.Run.{Hashing, closed, opened, Effect, goes, takes, stops, refuses, effect, feeding, piece, Entry, Run, ended, first, follow, after, runFor, runFrom}
 use Rattle.tape.proofs.Runs.{enough}
 
 -- A digest has width / 8 bytes.
@@ -123,7 +121,7 @@ first-follow n tape at next command found left rest (goes h) known single =
     later tape at next _ (omega (arith, read-next tape at command next found .0)) (rest h known)
 first-follow n tape at next command found left rest (takes w m) known single =
     let there = read-next tape at command next found in
-    let size = read-size tape at command next found ∙ ap (λ (c : Command). at + Rattle.reader.proofs.Laws.sizeOf c) single in
+    let size = read-size tape at command next found ∙ ap (λ (c : Command). at + sizeOf c) single in
     let entry : Entry = record { width = w; fed = m; place = at } in
     some entry known (omega arith) (omega (arith, there .0, there .1))
     (ap (first entry) (enough n (suc (length tape)) tape next closed (omega (arith, there .0)) (omega (arith, there .0)) ∙ ap (λ (k : ℕ). runFor (suc (length tape)) tape k closed) size))

@@ -1,9 +1,9 @@
 -- The run as far as it has come.
 use mathlib.Core.Bool.{Bool, true, false, cond}
-use mathlib.Core.List.{List, [], _∷_, _++_, append-nil}
+use mathlib.Core.List.{List, [], _∷_, append-nil}
 use mathlib.Core.Logic.{⊎-elim}
-use mathlib.Core.Path.{_≡_, refl, sym, ap, _∙_, subst}
-use Prim.Native.Nat.{ℕ, _+_, _-_, _/_, _≤_, _<_}
+use mathlib.Core.Path.{_≡_, refl, sym, ap, _∙_}
+use Prim.Native.Nat.{ℕ, _+_, _/_}
 use native.Mathlib.Omega.{arith}
 use native.Mathlib.Decide.{decLe}
 use borrow.Author.Tests.{le-leb, lt-leb, eqb-false}
@@ -21,15 +21,14 @@ use Rattle.text.specs.Text.{over}
 use Rattle.text.proofs.Over.{over-nil}
 use Rattle.reader.specs.declared.Command.{Command}
 use Rattle.reader.specs.declared.Command.the-variants.{Open, Full, Part, Take, Stop}
-use Rattle.reader.specs.declared.Reading.{Reading}
 use Rattle.reader.specs.declared.Reading.the-variants.{Found, Refused}
 use Rattle.reader.proofs.Command.{the-type}
 use Rattle.reader.specs.Reading.{readAt}
 use Rattle.tape.specs.Run.{Hashing, closed, opened, Effect, goes, takes, stops, refuses, effect, feeding, piece, Entry, Run, ended, first, follow, after, runFrom, fit, within, output, nextOf, firstOutput}
-use Rattle.tape.specs.Standing.{Stands, StandsFor, Steps, Obeys, Finished, Finishes}
+use Rattle.tape.specs.Standing.{StandsFor, Steps, Obeys, Finished, Finishes}
 use Rattle.tape.specs.declared.Step.{Step}
 use Rattle.tape.specs.declared.Next.{Next}
-use Rattle.tape.specs.declared.Next.the-variants.{Taken, Ended}
+use Rattle.tape.specs.declared.Next.the-variants.{Ended}
 use Rattle.tape.proofs.Runs.{run-step}
 
 -- The tape goes on, unless the command is refused, where it is OPEN, FULL or PART: those are the variants 0, 1 and 2.

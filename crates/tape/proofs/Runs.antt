@@ -1,22 +1,14 @@
 -- Laws of runs.
-use mathlib.Core.Bool.{Bool, true, false, cond}
-use mathlib.Core.List.{List, [], _∷_, _++_, append-assoc, append-nil}
-use mathlib.Core.Path.{_≡_, refl, sym, ap, _∙_}
-use Prim.Native.Nat.{ℕ, zero, suc, _+_, _-_, _/_, _≤_, _<_}
-use native.Mathlib.Nat.{not-suc-le-zero}
+use mathlib.Core.List.{List}
+use mathlib.Core.Path.{_≡_, refl, sym, ap}
+use Prim.Native.Nat.{ℕ, zero, suc, _+_, _≤_, _<_}
 use native.Mathlib.Omega.{arith}
-use borrow.Author.Tests.{le-leb, lt-leb}
-use lib.Dec.{leb}
-use lib.ListN.{length, take}
-use Rattle.simd.specs.Hash.{digest}
-use Rattle.reader.specs.declared.Command.{Command}
+use lib.ListN.{length}
 use Rattle.reader.specs.declared.Reading.{Reading}
 use Rattle.reader.specs.declared.Reading.the-variants.{Found, Refused}
 use Rattle.reader.specs.Reading.{readAt}
 use Rattle.reader.proofs.Laws.{read-none, read-next}
-use Rattle.tape.specs.Run.{Hashing, closed, opened, Effect, goes, takes, stops, refuses, effect, Entry, Run, ended, first, follow, after, runFor, runFrom, fit, within, output, nextOf, firstOutput}
-use Rattle.tape.specs.declared.Next.{Next}
-use Rattle.tape.specs.declared.Next.the-variants.{Taken, Ended}
+use Rattle.tape.specs.Run.{Hashing, closed, Effect, goes, takes, stops, refuses, effect, Run, first, follow, after, runFor, runFrom, within}
 
 -- A run goes by what follows, and only at later places of the tape.
 follow-ext : (f g : ℕ → Hashing → Run) (at next : ℕ) (e : Effect) → ((h : Hashing) → f next h ≡ g next h) → follow f at next e ≡ follow g at next e

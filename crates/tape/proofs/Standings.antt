@@ -1,33 +1,30 @@
 -- Laws of the hash that stands for a message: it is legal, of the message's width and length, its digest is the message's, and what it is fed
 -- joins the message.
-use mathlib.Core.Bool.{Bool, true, false, cond}
-use mathlib.Core.List.{List, [], _∷_, _++_}
-use mathlib.Core.Path.{_≡_, refl, sym, ap, _∙_, subst}
-use Prim.Native.Nat.{ℕ, zero, suc, _+_, _*_, _-_, _/_, _%_, _≤_, _<_}
+use mathlib.Core.Bool.{true, false}
+use mathlib.Core.List.{List, [], _++_}
+use mathlib.Core.Path.{_≡_, refl, sym, ap, _∙_}
+use Prim.Native.Nat.{ℕ, _+_, _*_, _/_, _%_, _≤_, _<_}
 use native.Mathlib.Nat.{zero-add}
 use native.Mathlib.Omega.{arith}
 use native.Mathlib.Decide.{decLe}
 use borrow.Author.Tests.{le-leb, lt-leb}
-use lib.Dec.{leb, lit<}
-use lib.ListN.{length, getD, take, drop, length-append, length-take}
-use lib.Seq.{take-all}
+use lib.Dec.{lit<}
+use lib.ListN.{length, take, length-append}
 use Rattle.simd.specs.Basic.{Family, small, large, familyOf, isWidth, blockBits, bytesOf}
 use Rattle.simd.specs.Constants.{start}
-use Rattle.simd.specs.Message.{bitsOf, message}
+use Rattle.simd.specs.Message.{message}
 use Rattle.simd.specs.Hash.{digest, final, finalState}
-use Rattle.laws.proofs.Bits.{Bits, length-bitsOf, getD-bitsOf, bits-append, getD-take-past}
-use Rattle.hash.specs.Zero.{clear}
+use Rattle.laws.proofs.Bits.{Bits, bits-append}
 use Rattle.hash.specs.Open.{limit, legal, reached, pending, holding, advanced, openAnswer, openRefusal, opened, pieceRefusal, feedRefusal, fed, feedAnswer, finalOf, digestOf, takeRefusal, taken, takeAnswer, written}
 use Rattle.hash.specs.declared.Hash.{Hash}
 use Rattle.hash.specs.declared.Opened.{Opened}
 use Rattle.hash.specs.declared.Fed.{Fed}
 use Rattle.hash.proofs.Holding.{Sized, held-state, held-tail, held-legal}
-use Rattle.hash.proofs.Feeding.{Whole, held-sized, advanced-sized, advanced-legal, advanced-append, advanced-none, fed-whole, length-message, bits-message, final-advanced, at-widths, start-length}
+use Rattle.hash.proofs.Feeding.{Whole, held-sized, advanced-legal, advanced-append, advanced-none, fed-whole, length-message, bits-message, final-advanced, at-widths, start-length}
 use Rattle.hash.proofs.Theorems.{open-known, digest-length}
 use Rattle.text.specs.Text.{over}
-use Rattle.tape.specs.Run.{Hashing, closed, Effect, goes, refuses, feeding}
-use Rattle.tape.specs.Standing.{Stands, StandsFor, Steps}
-use Rattle.tape.specs.declared.Step.{Step}
+use Rattle.tape.specs.Run.{feeding}
+use Rattle.tape.specs.Standing.{Stands, Steps}
 
 none-used : (f : Family) → 0 ≡ 0 % blockBits f
 none-used small = refl

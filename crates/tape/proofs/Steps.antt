@@ -1,29 +1,24 @@
 -- Laws of steps, command by command.
-use mathlib.Core.Bool.{Bool, true, false, cond}
-use mathlib.Core.List.{List, []}
+use mathlib.Core.Bool.{Bool, true, false}
+use mathlib.Core.List.{List}
 use mathlib.Core.Path.{_≡_, refl, sym, ap, _∙_}
-use Prim.Native.Nat.{ℕ, _+_, _*_, _/_, _≤_, _<_}
+use Prim.Native.Nat.{ℕ, _+_, _/_, _≤_, _<_}
 use native.Mathlib.Omega.{arith}
 use native.Mathlib.Decide.{decLe}
 use borrow.Author.Tests.{le-leb, lt-leb}
 use lib.Dec.{lit<}
-use lib.ListN.{length, take, drop, length-take, length-drop}
+use lib.ListN.{length, drop, length-take, length-drop}
 use Rattle.simd.specs.Basic.{isWidth}
-use Rattle.simd.specs.Message.{bitsOf, message}
-use Rattle.simd.specs.Hash.{digest}
 use Rattle.hash.specs.Zero.{clear}
 use Rattle.hash.specs.Open.{openAnswer, feedAnswer, takeAnswer, takeRefusal, digestOf, written}
 use Rattle.hash.specs.declared.Hash.{Hash}
 use Rattle.hash.specs.declared.Opened.{Opened}
 use Rattle.hash.specs.declared.Fed.{Fed}
 use Rattle.hash.specs.declared.Taken.{Taken as Took}
-use Rattle.text.specs.Text.{over}
 use Rattle.reader.specs.declared.Command.{Command}
-use Rattle.reader.specs.declared.Command.the-variants.{Open, Full, Part, Take, Stop}
-use Rattle.tape.specs.Run.{Hashing, closed, opened, Effect, refuses, effect, feeding, piece}
-use Rattle.tape.specs.Standing.{Stands, StandsFor, Steps, Obeys, Opens, Takes, Finished, Finishes}
-use Rattle.tape.specs.declared.Step.{Step}
-use Rattle.tape.specs.declared.Next.{Next}
+use Rattle.reader.specs.declared.Command.the-variants.{Open, Full, Part, Stop}
+use Rattle.tape.specs.Run.{closed, opened, refuses, effect, piece}
+use Rattle.tape.specs.Standing.{Steps, Obeys, Opens, Takes, Finishes}
 use Rattle.tape.specs.declared.Next.the-variants.{Taken, Ended}
 use Rattle.tape.proofs.Standings.{stands-fresh, open-accepted, open-refused, stands-open, stands-width, feed-steps, take-fits, take-short}
 use Rattle.tape.proofs.Clear.{whole-part, whole-full, message-full}

@@ -12,7 +12,7 @@ use Rattle.hash.specs.declared.Hash.{Hash}
 use Rattle.hash.specs.Open.{limit, holding, advanced}
 use Rattle.text.specs.Text.{over}
 use Rattle.reader.specs.declared.Command.{Command}
-use Rattle.reader.specs.declared.Command.the-variants.{Open, Full, Part, Take, Stop}
+use Rattle.reader.specs.declared.Command.the-variants.{Open, Take}
 use Rattle.reader.specs.declared.Reading.{Reading}
 use Rattle.reader.specs.declared.Reading.the-variants.{Found, Refused}
 use Rattle.tape.specs.Run.{Hashing, closed, opened, Effect, goes, takes, stops, refuses, effect}

@@ -1,16 +1,14 @@
 // The tape run: commands are read one after the other, and each TAKE writes the digest of what its own OPEN .. TAKE fed.
 ghost use mathlib.Core.Path.{_≡_};
-ghost use mathlib.Core.List.{[]};
 ghost use mathlib.Core.Bool.{true, false};
-ghost use Prim.Native.Nat.{_+_, _*_, _-_, _/_, _%_, _^_, _≤_, _<_};
+ghost use Prim.Native.Nat.{_+_, _-_, _/_, _%_, _^_, _≤_, _<_};
 ghost use lib.ListN.{length};
-ghost use Rattle.simd.specs.Message.{bitsOf, message};
 ghost use Rattle.hash.specs.Zero.{clear as clearOf};
 ghost use Rattle.text.specs.Text.{over};
 ghost use Rattle.reader.specs.Reading.{Inside};
-ghost use Rattle.reader.specs.declared.Command.the-variants.{Open, Full, Part, Take};
-ghost use Rattle.tape.specs.Run.{Hashing, closed, opened, effect, after as afterReading, runFrom, within, output, ranOf, nextOf, firstOutput, piece};
-ghost use Rattle.tape.specs.Standing.{StandsFor, Steps, Obeys, Opens, Takes, Finishes, endOf, closeOf};
+ghost use Rattle.reader.specs.declared.Command.the-variants.{Full, Part};
+ghost use Rattle.tape.specs.Run.{closed, opened, runFrom, within, output, ranOf, nextOf, firstOutput};
+ghost use Rattle.tape.specs.Standing.{Obeys, Opens, Takes, Finishes, endOf, closeOf};
 use hash::Hash;
 use reader::Command;
 use reader::Reading;

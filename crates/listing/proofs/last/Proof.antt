@@ -1,13 +1,11 @@
 -- `listing::last` meets its contract.
 use mathlib.Core.Bool.{false}
-use mathlib.Core.Path.{_≡_, sym, ap, _∙_}
-use mathlib.Core.List.{List}
+use mathlib.Core.Path.{sym, ap, _∙_}
 use Prim.Native.Nat.{ℕ}
 use Rattle.text.specs.Text.{over}
 use Rattle.text.proofs.Over.{over-nil}
 use Rattle.tape.specs.declared.Next.{Next}
 use Rattle.listing.specs.Ending.{endText, endLine}
-use Rattle.listing.specs.declared.Line.{Line}
 use borrow.Author.Needs.{needs}
 use Rattle.listing.proofs.last.Statement.{statement}
 use Rattle.listing.proofs.last.Tie as tie

@@ -1,19 +1,16 @@
 -- `listing::next_line` meets its contract: the line is that of the run's first digest, or its last.
-use mathlib.Core.Bool.{true, false}
-use mathlib.Core.Path.{_≡_, refl, sym, ap, _∙_}
-use mathlib.Core.List.{List}
-use Prim.Native.Nat.{ℕ, _+_, _/_, _≤_}
+use mathlib.Core.Bool.{true}
+use mathlib.Core.Path.{sym, ap, _∙_}
+use Prim.Native.Nat.{ℕ}
 use native.Mathlib.Omega.{arith}
 use lib.ListN.{length, take}
 use Rattle.simd.specs.Hash.{digest}
 use Rattle.text.specs.Text.{over, digestLine}
-use Rattle.tape.specs.Run.{closed, ended, runFrom, within, nextOf}
+use Rattle.tape.specs.Run.{closed, runFrom, within, nextOf}
 use Rattle.tape.specs.declared.Next.{Next}
-use Rattle.tape.specs.declared.Next.the-variants.{Ended}
 use Rattle.listing.specs.Listing.{sealed}
 use Rattle.listing.specs.Ending.{endText, endLine}
-use Rattle.listing.specs.declared.Line.{Line}
-use Rattle.listing.proofs.Lines.{Lent, lent, ended-run, sealed-run, sealed-long, line-short, line-last, line-digest}
+use Rattle.listing.proofs.Lines.{lent, ended-run, sealed-run, sealed-long, line-short, line-last, line-digest}
 use borrow.Author.Needs.{needs}
 use Rattle.listing.proofs.next_line.Statement.{statement}
 use Rattle.listing.proofs.next_line.Tie as tie

@@ -1,8 +1,8 @@
 -- `seal::main` is safe and ends: what was read lies within the tape's room.
-use mathlib.Core.Path.{_≡_, sym, subst}
-use Prim.Native.Nat.{ℕ, _≤_}
+use mathlib.Core.Path.{sym, subst}
+use Prim.Native.Nat.{_≤_}
 use native.Mathlib.Omega.{arith}
-use lib.ListN.{length, take}
+use lib.ListN.{length}
 use lib.Seq.{length-take-le}
 use Rattle.seal.specs.Input.{Within}
 use Rattle.seal.specs.declared.Input.{Input}

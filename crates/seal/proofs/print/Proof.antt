@@ -1,11 +1,11 @@
 -- `seal::print` is safe and ends: what was handed on, what the text holds and what is still to come make the listing.
-use mathlib.Core.Path.{_≡_, refl, sym, ap, _∙_}
-use Prim.Native.Nat.{ℕ, _+_, _-_, _≤_}
+use mathlib.Core.Path.{_≡_, sym, _∙_}
+use Prim.Native.Nat.{_-_, _≤_}
 use native.Mathlib.Omega.{arith}
 use borrow.Author.Needs.{needs}
-use borrow.Author.Tests.{not-true, not-false}
+use borrow.Author.Tests.{not-false}
 use lib.ListN.{length, take, drop}
-use mathlib.Core.List.{List, _++_}
+use mathlib.Core.List.{_++_}
 use Rattle.listing.proofs.Pages.{Printing, printing-none, printing-on, Turn, turn}
 use Rattle.seal.proofs.print.Statement.{statement}
 use Rattle.seal.proofs.print.Tie as tie

@@ -1,11 +1,9 @@
 -- `tape::advance` meets its contract: until a TAKE the run from the start is the run from the place reached, with what is open there.
 use mathlib.Core.Path.{_≡_, refl, sym, ap, _∙_}
-use mathlib.Core.List.{List}
-use Prim.Native.Nat.{ℕ, _+_, _-_}
+use Prim.Native.Nat.{_-_}
 use native.Mathlib.Omega.{arith}
 use borrow.Author.Needs.{needs}
 use lib.ListN.{length}
-use Rattle.reader.specs.declared.Reading.{Reading}
 use Rattle.reader.proofs.Laws.{read-next, read-inside}
 use Rattle.tape.specs.Standing.{endOf}
 use Rattle.tape.proofs.Reached.{Reached, reached-none, answers-refused, answers-step, answers-take, answers-stop, reached-next}

@@ -1,13 +1,12 @@
 -- `tape::run` meets its contract: the digests so far stand at the front of the output, and the rest of the run follows from the place reached.
 use mathlib.Core.Path.{_≡_, refl, sym, ap, _∙_}
-use mathlib.Core.List.{List, _++_}
-use Prim.Native.Nat.{ℕ, _+_, _-_, _/_, _≤_}
+use Prim.Native.Nat.{_-_}
 use native.Mathlib.Omega.{arith}
 use borrow.Author.Needs.{needs}
 use lib.ListN.{length, take, drop, length-drop}
 use Rattle.text.specs.Text.{over}
 use Rattle.text.proofs.Over.{over-nil, length-over}
-use Rattle.tape.specs.Run.{closed, runFrom, within, nextOf, firstOutput}
+use Rattle.tape.specs.Run.{closed, runFrom, within, firstOutput}
 use Rattle.tape.specs.Standing.{closeOf}
 use Rattle.tape.specs.declared.Next.{Next}
 use Rattle.tape.proofs.Done.{Done, done-none, done-more, done-end, took, first-fits, none-written, part-all, part-back}

@@ -1,11 +1,11 @@
 -- `text::digits` meets its contract: the last digit stands after those of a tenth of the number, of which there may be one fewer.
-use mathlib.Core.Path.{_≡_, refl, sym, ap, _∙_}
-use mathlib.Core.List.{List, [], _∷_, _++_}
-use Prim.Native.Nat.{_+_, _-_, _/_, _%_, _≤_}
+use mathlib.Core.Path.{sym, ap, _∙_}
+use mathlib.Core.List.{[], _∷_}
+use Prim.Native.Nat.{_+_, _-_, _/_, _%_}
 use native.Mathlib.Omega.{arith}
-use lib.ListN.{length, set, length-set, length-append}
+use lib.ListN.{length, set, length-append}
 use Rattle.text.specs.Text.{over, digits as digitsOf}
-use Rattle.text.proofs.Over.{over-nil, length-over, over-byte}
+use Rattle.text.proofs.Over.{over-nil, over-byte}
 use Rattle.text.proofs.Words.{digits-le, digits-none, digits-last, digits-more}
 use borrow.Author.Needs.{needs}
 use Prim.Native.Nat.{ℕ, _<_}

@@ -1,10 +1,10 @@
 -- `text::decimal` meets its contract.
-use mathlib.Core.Path.{_≡_, ap, _∙_}
+use mathlib.Core.Path.{ap, _∙_}
 use mathlib.Core.List.{List, [], _∷_}
 use Prim.Native.Nat.{ℕ}
 use native.Mathlib.Omega.{arith}
-use lib.ListN.{length, set, length-append}
-use Rattle.text.specs.Text.{over, decimal as decimalOf}
+use lib.ListN.{set, length-append}
+use Rattle.text.specs.Text.{decimal as decimalOf}
 use Rattle.text.proofs.Over.{over-byte}
 use borrow.Author.Needs.{needs}
 use Rattle.text.proofs.decimal.Statement.{statement}

@@ -1,9 +1,7 @@
 -- `text::done_line` meets its contract: each call writes straight after what the calls before it wrote.
-use mathlib.Core.Path.{_≡_, sym, ap, _∙_}
-use mathlib.Core.List.{List, _++_}
-use native.Mathlib.Omega.{arith}
-use lib.ListN.{length, take}
-use Rattle.text.specs.Text.{over, decimal as decimalOf, hex as hexOf, doneWord}
+use mathlib.Core.Path.{ap, _∙_}
+use lib.ListN.{length}
+use Rattle.text.specs.Text.{over, decimal as decimalOf, doneWord}
 use Rattle.text.proofs.Over.{wrote-more}
 use Rattle.text.proofs.Words.{spaced, ended, done-line}
 use borrow.Author.Needs.{needs}

@@ -1,13 +1,13 @@
 -- `text::hex` meets its contract: after i turns the digits of the first i bytes stand at the place.
 use mathlib.Core.Path.{_≡_, refl, sym, ap, _∙_}
-use mathlib.Core.List.{List, [], _∷_, _++_}
-use Prim.Native.Nat.{ℕ, _+_, _-_, _*_, _/_, _%_, _≤_}
+use mathlib.Core.List.{List, [], _∷_}
+use Prim.Native.Nat.{ℕ, _+_, _-_, _*_, _≤_}
 use native.Mathlib.Omega.{arith}
 use borrow.Author.Needs.{needs}
 use lib.ListN.{length, take, set, length-set, length-append}
 use lib.Seq.{length-take-le, take-all}
 use Rattle.text.specs.Text.{over, hex as hexOf}
-use Rattle.text.proofs.Over.{over-nil, length-over, over-byte, over-pair}
+use Rattle.text.proofs.Over.{over-nil, over-byte, over-pair}
 use Rattle.text.proofs.Words.{length-hex, hex-more}
 use Rattle.text.proofs.hex.Statement.{statement}
 use Rattle.text.proofs.hex.Tie as tie

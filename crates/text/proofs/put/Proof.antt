@@ -7,7 +7,7 @@ use borrow.Author.Needs.{needs}
 use denote.Ref.{now}
 use lib.ListN.{length, getD, take, set, length-set}
 use Rattle.text.specs.Text.{over}
-use Rattle.text.proofs.Over.{over-nil, length-over, over-more, over-all}
+use Rattle.text.proofs.Over.{over-nil, over-more, over-all}
 use Rattle.text.proofs.put.Statement.{statement}
 use Rattle.text.proofs.put.Tie as tie
 
