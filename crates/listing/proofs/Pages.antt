@@ -60,92 +60,92 @@ module _
     (e : line ≡ lineOf (length (take (length text - used) (drop used text))) count (sealed tape at))
     (w : y ≡ textOf (take (length text - used) (drop used text)) count (sealed tape at))
     (kept : length y ≡ length (take (length text - used) (drop used text)))
-    where
-  part : List ℕ
-  part = take (length text - used) (drop used text)
+  where
+    part : List ℕ
+    part = take (length text - used) (drop used text)
 
-  part-long : length part ≡ length text - used
-  unfolding part
-  part-long = ap length (part-all text used) ∙ length-drop used text
+    part-long : length part ≡ length text - used
+    unfolding part
+    part-long = ap length (part-all text used) ∙ length-drop used text
 
-  fits : 192 ≤ length part
-  fits = omega (arith, part-long)
+    fits : 192 ≤ length part
+    fits = omega (arith, part-long)
 
-  this : List ℕ
-  this = firstLine count (sealed tape at)
+    this : List ℕ
+    this = firstLine count (sealed tape at)
 
-  line-size : line .length ≡ length this
-  unfolding this lineOf part
-  line-size =
-      ap (λ (l : Line). l .length) e
-      ∙ rw (le-leb 192 (length part) fits) (by-length (firstLine count (sealed tape at)) (sealed tape at .entries))
+    line-size : line .length ≡ length this
+    unfolding this lineOf part
+    line-size =
+        ap (λ (l : Line). l .length) e
+        ∙ rw (le-leb 192 (length part) fits) (by-length (firstLine count (sealed tape at)) (sealed tape at .entries))
 
-  size : used + length this ≤ length text
-  unfolding part
-  size =
-      let within = line-inside part y count (sealed tape at) w kept in
-      let same = ap (λ (l : Line). l .length) e in
-      omega (arith, within, same, line-size, part-long)
+    size : used + length this ≤ length text
+    unfolding part
+    size =
+        let within = line-inside part y count (sealed tape at) w kept in
+        let same = ap (λ (l : Line). l .length) e in
+        omega (arith, within, same, line-size, part-long)
 
-  exit : List ℕ
-  exit = take used text ++ (y ++ drop (length text - used) (drop used text))
+    exit : List ℕ
+    exit = take used text ++ (y ++ drop (length text - used) (drop used text))
 
-  back : exit ≡ over text used this
-  unfolding exit this part textOf
-  back = part-back text used this y size (w ∙ rw (le-leb 192 (length part) fits))
+    back : exit ≡ over text used this
+    unfolding exit this part textOf
+    back = part-back text used this y size (w ∙ rw (le-leb 192 (length part) fits))
 
-  held : take (used + line .length) exit ≡ take used text ++ this
-  held =
-      (λ i. take (used + line-size i) (back i)) ∙ take-over text used this size
+    held : take (used + line .length) exit ≡ take used text ++ this
+    held =
+        (λ i. take (used + line-size i) (back i)) ∙ take-over text used this size
 
-  line-long : length (take used text ++ (y ++ drop (length text - used) (drop used text))) ≡ length text
-  unfolding exit
-  line-long = ap length back ∙ length-over text used this size
+    line-long : length (take used text ++ (y ++ drop (length text - used) (drop used text))) ≡ length text
+    unfolding exit
+    line-long = ap length back ∙ length-over text used this size
 
-  line-room : used + line .length ≤ length text
-  line-room = omega (arith, line-size, size)
+    line-room : used + line .length ≤ length text
+    line-room = omega (arith, line-size, size)
 
-  printing-more : line .more ≡ true → Printing tape (take used text ++ (y ++ drop (length text - used) (drop used text))) (used + line .length) (line .next) (count + 1)
-  unfolding exit this part
-  printing-more more =
-      let c = line-more tape at count (length part) fits (ap (λ (l : Line). l .more) (sym e) ∙ more) in
-      let next = ap (λ (l : Line). l .next) e in
-      record {
-        room = omega (arith, line-room, line-long);
-        few = omega (arith, p .few, c .forward, next);
-        inside = omega (arith, c .inside, next);
-        printed = p .printed;
-        listed =
-            (λ i. p .printed ++ held i ++ lines (count + 1) (sealed tape (next i)))
-            ∙ regroup (p .printed) (take used text) this (lines (count + 1) (sealed tape (lineOf (length part) count (sealed tape at) .next)))
-            ∙ ap (λ (l : List ℕ). p .printed ++ take used text ++ l) (sym (c .listed))
-            ∙ p .listed;
-      }
-    where
-      regroup : (a b c d : List ℕ) → a ++ (b ++ c) ++ d ≡ a ++ b ++ (c ++ d)
-      regroup a b c d = simp append-assoc
+    printing-more : line .more ≡ true → Printing tape (take used text ++ (y ++ drop (length text - used) (drop used text))) (used + line .length) (line .next) (count + 1)
+    unfolding exit this part
+    printing-more more =
+        let c = line-more tape at count (length part) fits (ap (λ (l : Line). l .more) (sym e) ∙ more) in
+        let next = ap (λ (l : Line). l .next) e in
+        record {
+          room = omega (arith, line-room, line-long);
+          few = omega (arith, p .few, c .forward, next);
+          inside = omega (arith, c .inside, next);
+          printed = p .printed;
+          listed =
+              (λ i. p .printed ++ held i ++ lines (count + 1) (sealed tape (next i)))
+              ∙ regroup (p .printed) (take used text) this (lines (count + 1) (sealed tape (lineOf (length part) count (sealed tape at) .next)))
+              ∙ ap (λ (l : List ℕ). p .printed ++ take used text ++ l) (sym (c .listed))
+              ∙ p .listed;
+        }
+      where
+        regroup : (a b c d : List ℕ) → a ++ (b ++ c) ++ d ≡ a ++ b ++ (c ++ d)
+        regroup a b c d = simp append-assoc
 
-  -- The last line.
-  printing-end : line .more ≡ false → p .printed ++ take (used + line .length) (take used text ++ (y ++ drop (length text - used) (drop used text))) ≡ listing tape
-  unfolding exit this part
-  printing-end end =
-      let c = line-ends tape at count (length part) fits (ap (λ (l : Line). l .more) (sym e) ∙ end) in
-      ap (λ (l : List ℕ). p .printed ++ l) held
-      ∙ sym (append-assoc (p .printed) (take used text) this)
-      ∙ ap (λ (l : List ℕ). p .printed ++ take used text ++ l) (sym (c .listed))
-      ∙ p .listed
+    -- The last line.
+    printing-end : line .more ≡ false → p .printed ++ take (used + line .length) (take used text ++ (y ++ drop (length text - used) (drop used text))) ≡ listing tape
+    unfolding exit this part
+    printing-end end =
+        let c = line-ends tape at count (length part) fits (ap (λ (l : Line). l .more) (sym e) ∙ end) in
+        ap (λ (l : List ℕ). p .printed ++ l) held
+        ∙ sym (append-assoc (p .printed) (take used text) this)
+        ∙ ap (λ (l : List ℕ). p .printed ++ take used text ++ l) (sym (c .listed))
+        ∙ p .listed
 
-  pub turn : Turn tape text used at count line (take used text ++ (y ++ drop (length text - used) (drop used text))) (p .printed)
-  unfolding part
-  turn =
-      record {
-        long = line-long;
-        room = line-room;
-        part = sym (length-take-le (used + line .length) _ (omega (arith, line-long, line-room)));
-        forward =
-            λ more.
-            let c = line-more tape at count (length part) fits (ap (λ (l : Line). l .more) (sym e) ∙ more) in
-            omega (arith, c .forward, ap (λ (l : Line). l .next) e);
-        more = printing-more;
-        end = printing-end;
-      }
+    pub turn : Turn tape text used at count line (take used text ++ (y ++ drop (length text - used) (drop used text))) (p .printed)
+    unfolding part
+    turn =
+        record {
+          long = line-long;
+          room = line-room;
+          part = sym (length-take-le (used + line .length) _ (omega (arith, line-long, line-room)));
+          forward =
+              λ more.
+              let c = line-more tape at count (length part) fits (ap (λ (l : Line). l .more) (sym e) ∙ more) in
+              omega (arith, c .forward, ap (λ (l : Line). l .next) e);
+          more = printing-more;
+          end = printing-end;
+        }

@@ -98,6 +98,10 @@ fit room (e ∷ entries) number place =
 unfoldable pub within : ℕ → Run → Run
 within room run = fit room (run .entries) (run .number) (run .place)
 
+-- The run of a tape from a place at which no hash is open, with so many bytes for its digests.
+abbrev pub runInto : ℕ → List ℕ → ℕ → Run
+runInto room tape at = within room (runFrom tape at closed)
+
 -- The digests, straight after each other.
 unfoldable pub output : List Entry → List ℕ
 output [] = []
@@ -107,7 +111,7 @@ output (e ∷ entries) = digest (e .width) (e .fed) ++ output entries
 abbrev pub ranOf : Run → Ran
 ranOf run = record { digests = length (run .entries); refusal = run .number; place = run .place }
 
--- The answer of a run as far as its first TAKE: its width and the place after it, or how the run ends before one. And what is written.
+-- The answer of a run as far as its first TAKE: its width and the place after it, or how the run ends before one. Then what it writes.
 abbrev pub nextBy : List Entry → ℕ → ℕ → Next
 nextBy [] number place = Ended number place
 nextBy (e ∷ entries) number place = Taken (e .width) (e .place + 1)

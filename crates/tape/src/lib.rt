@@ -1,13 +1,12 @@
 // The tape run: commands are read one after the other, and each TAKE writes the digest of what its own OPEN .. TAKE fed.
 ghost use mathlib.Core.Path.{_≡_};
-ghost use mathlib.Core.Bool.{true, false};
 ghost use Prim.Native.Nat.{_+_, _-_, _/_, _%_, _^_, _≤_, _<_};
 ghost use lib.ListN.{length};
 ghost use Rattle.hash.specs.Zero.{clear as clearOf};
 ghost use Rattle.text.specs.Text.{over};
 ghost use Rattle.reader.specs.Reading.{Inside};
 ghost use Rattle.reader.specs.declared.Command.the-variants.{Full, Part};
-ghost use Rattle.tape.specs.Run.{closed, opened, runFrom, within, output, ranOf, nextOf, firstOutput};
+ghost use Rattle.tape.specs.Run.{runInto, output, ranOf, nextOf, firstOutput};
 ghost use Rattle.tape.specs.Standing.{Obeys, Opens, Takes, Finishes, endOf, closeOf};
 use hash::Hash;
 use reader::Command;
@@ -184,9 +183,9 @@ fn none() -> Hash
     }
 }
 
-// From a place at which no hash is open, on to the next TAKE: its digest goes to the front of the output.
+// The run from a place at which no hash is open, as far as its first TAKE, whose digest goes to the front of the output.
 pub fn advance(tape: &[u8], from: usize, out: &mut [u8]) -> Next
-    ensures { λ r. ⌜ (r ≡ nextOf (within (length (now (out .entry))) (runFrom (now (tape .entry)) from closed))) × (now (out .exit) ≡ over (now (out .entry)) 0 (firstOutput (within (length (now (out .entry))) (runFrom (now (tape .entry)) from closed)))) ⌝ }
+    ensures { λ r. ⌜ (r ≡ nextOf (runInto (length (now (out .entry))) (now (tape .entry)) from)) × (now (out .exit) ≡ over (now (out .entry)) 0 (firstOutput (runInto (length (now (out .entry))) (now (tape .entry)) from))) ⌝ }
 {
     let mut at = from;
     let mut hash = none();
@@ -228,9 +227,10 @@ fn closing(next: Next, digests: usize) -> Ran
     }
 }
 
-// The whole run: digests go straight after each other into the output.
+// The whole run. Digests stand straight after each other at the front of the output; a refused command leaves those before it and the rest
+// of the output as they are.
 pub fn run(tape: &[u8], out: &mut [u8]) -> Ran
-    ensures { λ r. ⌜ (r ≡ ranOf (within (length (now (out .entry))) (runFrom (now (tape .entry)) 0 closed))) × (now (out .exit) ≡ over (now (out .entry)) 0 (output (within (length (now (out .entry))) (runFrom (now (tape .entry)) 0 closed) .entries))) ⌝ }
+    ensures { λ r. ⌜ (r ≡ ranOf (runInto (length (now (out .entry))) (now (tape .entry)) 0)) × (now (out .exit) ≡ over (now (out .entry)) 0 (output (runInto (length (now (out .entry))) (now (tape .entry)) 0 .entries))) ⌝ }
 {
     let mut at = 0;
     let mut used = 0;

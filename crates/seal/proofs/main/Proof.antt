@@ -54,8 +54,7 @@ slice-aggregate-print-2 c = search needs
 
 print-requires : tie.Need-print-requires
 print-requires c κs =
-    let read = c .before .before .before .before .before .before .before .read-tape in
-    (
+    let read = c .before .before .before .before .before .before .before .read-tape in (
       omega (arith, length-take-le (c .before .before .before .before .input .given .0 .0) (read .last .0) (size (c .before .before)), size (c .before .before), read .kept .0, c .before .before .before .before .before .before .before .before .before .room .ensures),
       sym (c .before .before .page .ensures),
     )
