@@ -1,0 +1,172 @@
+-- Laws of the hash that stands for a message: it is legal, of the message's width and length, its digest is the message's, and what it is fed
+-- joins the message.
+use mathlib.Core.Bool.{true, false}
+use mathlib.Core.List.{List, [], _++_}
+use mathlib.Core.Path.{_≡_, refl, sym, ap, _∙_}
+use Prim.Native.Nat.{ℕ, _+_, _*_, _/_, _%_, _≤_, _<_}
+use native.Mathlib.Nat.{zero-add}
+use native.Mathlib.Omega.{arith}
+use native.Mathlib.Decide.{decLe}
+use borrow.Author.Tests.{le-leb, lt-leb}
+use lib.Dec.{lit<}
+use lib.ListN.{length, take, length-append}
+use Rattle.simd.specs.Basic.{Family, small, large, familyOf, isWidth, blockBits, bytesOf}
+use Rattle.simd.specs.Constants.{start}
+use Rattle.simd.specs.Message.{message}
+use Rattle.simd.specs.Hash.{digest, final, finalState}
+use Rattle.laws.proofs.Bits.{Bits, bits-append}
+use Rattle.hash.specs.Open.{limit, legal, reached, pending, holding, advanced, openAnswer, openRefusal, opened, pieceRefusal, feedRefusal, fed, feedAnswer, finalOf, digestOf, takeRefusal, taken, takeAnswer, written}
+use Rattle.hash.specs.declared.Hash.{Hash}
+use Rattle.hash.specs.declared.Opened.{Opened}
+use Rattle.hash.specs.declared.Fed.{Fed}
+use Rattle.hash.proofs.Holding.{Sized, held-state, held-tail, held-legal}
+use Rattle.hash.proofs.Feeding.{Whole, held-sized, advanced-legal, advanced-append, advanced-none, fed-whole, length-message, bits-message, final-advanced, at-widths, start-length}
+use Rattle.hash.proofs.Theorems.{open-known, digest-length}
+use Rattle.text.specs.Text.{over}
+use Rattle.tape.specs.Run.{feeding}
+use Rattle.tape.specs.Standing.{Stands, Steps}
+
+none-used : (f : Family) → 0 ≡ 0 % blockBits f
+none-used small = refl
+none-used large = refl
+
+no-bit : Bits []
+no-bit i = omega arith
+
+module _ (width : ℕ) (known : isWidth width ≡ true) where
+  none-left : length {A = ℕ} [] ≡ 0 % blockBits (familyOf width)
+  none-left = none-used (familyOf width)
+
+  fresh-sized : Sized (holding width 0 (start width) [])
+  fresh-sized = held-sized width 0 (start width) [] no-bit
+
+  fresh-legal : legal (holding width 0 (start width) []) ≡ true
+  fresh-legal = held-legal width 0 (start width) [] (start-length width known) none-left no-bit known
+
+  fresh-state : reached (holding width 0 (start width) []) ≡ start width
+  fresh-state = held-state width 0 (start width) [] (start-length width known) none-left no-bit
+
+  fresh-tail : pending (holding width 0 (start width) []) ≡ []
+  fresh-tail = held-tail width 0 (start width) [] (start-length width known) none-left no-bit
+
+  fed-width : (m : List ℕ) → advanced (holding width 0 (start width) []) m .width ≡ width
+  unfolding advanced holding
+  fed-width m = refl
+
+  fed-bits : (m : List ℕ) → advanced (holding width 0 (start width) []) m .bits ≡ length m
+  unfolding advanced holding
+  fed-bits m = zero-add (length m)
+
+  fed-final : (m : List ℕ) → Bits m → finalOf (advanced (holding width 0 (start width) []) m) ≡ finalState width m
+  unfolding finalState final holding
+  fed-final m bit =
+      final-advanced (holding width 0 (start width) []) fresh-sized m bit
+      ∙ rw (fresh-state, fresh-tail, zero-add (length m))
+
+  fed-digest : (m : List ℕ) → Bits m → digestOf (advanced (holding width 0 (start width) []) m) ≡ digest width m
+  unfolding digestOf digest
+  fed-digest m bit = λ i. take (fed-width m i / 8) (bytesOf (fed-final m bit i))
+
+  -- Opened.
+  pub stands-fresh : Stands width [] (openAnswer width .hash)
+  stands-fresh =
+      record {
+        known = known;
+        short = omega arith;
+        bits = no-bit;
+        same =
+            ap (λ (a : Opened). a .hash) (open-known width known)
+            ∙ sym (advanced-none (holding width 0 (start width) []) fresh-sized fresh-legal);
+      }
+
+  pub open-accepted : openAnswer width .refusal ≡ 0
+  open-accepted = ap (λ (a : Opened). a .refusal) (open-known width known)
+
+pub open-refused : (width : ℕ) → isWidth width ≡ false → openAnswer width .refusal ≡ 1
+unfolding openAnswer openRefusal opened
+open-refused width unknown = rw unknown
+
+module _ (width : ℕ) (m : List ℕ) (hash : Hash) (s : Stands width m hash) where
+  pub stands-width : hash .width ≡ width
+  stands-width = ap (λ (h : Hash). h .width) (s .same) ∙ fed-width width (s .known) m
+
+  pub stands-open : hash .width ≡ 0 → ⊥
+  stands-open none =
+      at-widths (λ (w : ℕ). w ≡ 0 → ⊥) (λ e. omega arith) (λ e. omega arith) (λ e. omega arith) (λ e. omega arith) width (s .known)
+      (sym stands-width ∙ none)
+
+  stands-bits : hash .bits ≡ length m
+  stands-bits = ap (λ (h : Hash). h .bits) (s .same) ∙ fed-bits width (s .known) m
+
+  stands-legal : legal hash ≡ true
+  stands-legal =
+      ap legal (s .same)
+      ∙ advanced-legal (holding width 0 (start width) []) (fresh-sized width (s .known)) m (s .bits) (fresh-legal width (s .known))
+
+  stands-digest : digestOf hash ≡ digest width m
+  stands-digest = ap digestOf (s .same) ∙ fed-digest width (s .known) m (s .bits)
+
+  pub digest-size : length (digest width m) ≡ width / 8
+  digest-size =
+      ap length (sym stands-digest) ∙ digest-length hash stands-legal ∙ ap (λ (w : ℕ). w / 8) stands-width
+
+  -- Taken.
+  module _ (out : List ℕ) where
+    fits-refusal : width / 8 ≤ length out → takeRefusal hash out ≡ 0
+    unfolding takeRefusal
+    fits-refusal room =
+        let fits : hash .width / 8 ≤ length out = rw stands-width room in
+        rw (stands-legal, le-leb (hash .width / 8) (length out) fits)
+
+    short-refusal : length out < width / 8 → takeRefusal hash out ≡ 6
+    unfolding takeRefusal
+    short-refusal short =
+        let none : length out < hash .width / 8 = rw stands-width short in
+        rw (stands-legal, lt-leb (hash .width / 8) (length out) none)
+
+    pub take-fits : width / 8 ≤ length out → (takeAnswer hash out .refusal ≡ 0) × (written (takeRefusal hash out) (digestOf hash) out ≡ over out 0 (digest width m))
+    unfolding takeAnswer taken written
+    take-fits room = (
+      rw (fits-refusal room),
+      rw (fits-refusal room, stands-digest, zero-add (length (digest width m))),
+    )
+
+    pub take-short : length out < width / 8 → (takeAnswer hash out .refusal ≡ 6) × (written (takeRefusal hash out) (digestOf hash) out ≡ out)
+    unfolding takeAnswer taken written
+    take-short short = (rw (short-refusal short), rw (short-refusal short))
+
+  -- Fed.
+  module _ (piece : List ℕ) (count : ℕ) (whole : Whole piece count) where
+    joins : length m + count ≤ limit → (feedAnswer hash piece count .refusal ≡ 0) × Stands width (m ++ message piece count) (feedAnswer hash piece count .hash)
+    joins room =
+        let size = length-message piece count (whole .within) in
+        let accepted = fed-whole hash piece count stands-legal whole (omega (arith, stands-bits)) in (
+          ap (λ (a : Fed). a .refusal) accepted,
+          record {
+            known = s .known;
+            short = omega (arith, length-append m (message piece count));
+            bits = bits-append m (message piece count) (s .bits) (bits-message piece count);
+            same =
+                ap (λ (a : Fed). a .hash) accepted
+                ∙ ap (λ (h : Hash). advanced h (message piece count)) (s .same)
+                ∙ advanced-append (holding width 0 (start width) []) (fresh-sized width (s .known)) m (message piece count) (s .bits);
+          },
+        )
+
+    too-long : limit < length m + count → feedAnswer hash piece count .refusal ≡ 4
+    unfolding feedAnswer fed feedRefusal pieceRefusal
+    too-long over =
+        let long : limit < hash .bits + count = omega (arith, stands-bits) in
+        rw (stands-legal, le-leb count (8 * length piece) (whole .within), whole .clean, lt-leb (hash .bits + count) limit long)
+
+    steps-by : Steps (feeding width m (message piece count)) (record { hash = feedAnswer hash piece count .hash; refusal = feedAnswer hash piece count .refusal })
+    unfolding feeding
+    steps-by =
+        let size = length-message piece count (whole .within) in
+        elim (decLe (length m + count) limit) [
+          | yes room ↦ rw (size, le-leb (length m + count) limit room) (joins room)
+          | no over ↦ rw (size, lt-leb (length m + count) limit (omega arith)) (too-long (omega arith), lit< tt)
+        ]
+
+    pub feed-steps : (a : Fed) → a ≡ feedAnswer hash piece count → Steps (feeding width m (message piece count)) (record { hash = a .hash; refusal = a .refusal })
+    feed-steps a e = rw e steps-by

@@ -1,0 +1,123 @@
+-- What a tape means: the digests of its TAKEs in order, and how it ends.
+use mathlib.Core.Bool.{cond}
+use mathlib.Core.List.{List, [], _∷_, _++_}
+use Prim.Native.Nat.{ℕ, zero, suc, _+_, _-_, _/_}
+use lib.Dec.{leb}
+use lib.ListN.{length, take, drop}
+use Rattle.simd.specs.Basic.{isWidth}
+use Rattle.simd.specs.Message.{bitsOf, message}
+use Rattle.simd.specs.Hash.{digest}
+use Rattle.hash.specs.Zero.{clear}
+use Rattle.hash.specs.Open.{limit}
+use Rattle.reader.specs.declared.Command.{Command}
+use Rattle.reader.specs.declared.Command.the-variants.{Open, Full, Part, Take, Stop}
+use Rattle.reader.specs.declared.Reading.{Reading}
+use Rattle.reader.specs.declared.Reading.the-variants.{Found, Refused}
+use Rattle.reader.specs.Reading.{readAt}
+use Rattle.tape.specs.declared.Next.{Next}
+use Rattle.tape.specs.declared.Next.the-variants.{Taken, Ended}
+use Rattle.tape.specs.declared.Ran.{Ran}
+
+-- No hash is open, or one of a width that was fed these bits.
+pub data Hashing : Type 0 where
+  closed : Hashing
+  opened : (width : ℕ) (fed : List ℕ) → Hashing
+
+-- What a command does: the tape goes on, a digest is taken, the tape stops, or the command is refused with a number.
+pub data Effect : Type 0 where
+  goes : Hashing → Effect
+  takes : (width : ℕ) (fed : List ℕ) → Effect
+  stops : Effect
+  refuses : (number : ℕ) → Effect
+
+-- The 32 bytes of FULL and PART.
+abbrev pub piece : List ℕ → ℕ → List ℕ
+piece tape place = take 32 (drop place tape)
+
+-- 4: the total is above the limit.
+unfoldable pub feeding : ℕ → List ℕ → List ℕ → Effect
+feeding width fed bits = cond (leb (length fed + length bits) limit) (goes (opened width (fed ++ bits))) (refuses 4)
+
+-- 12: OPEN while open, or FULL, PART, TAKE while not. 1: no such width. 3: a bit set past the count of PART, in all of its 32 bytes.
+unfoldable pub effect : List ℕ → Hashing → Command → Effect
+effect tape closed (Open w) = cond (isWidth w) (goes (opened w [])) (refuses 1)
+effect tape closed (Full p) = refuses 12
+effect tape closed (Part n p) = refuses 12
+effect tape closed Take = refuses 12
+effect tape closed Stop = stops
+effect tape (opened width fed) (Open w) = refuses 12
+effect tape (opened width fed) (Full p) = feeding width fed (bitsOf (piece tape p))
+effect tape (opened width fed) (Part n p) =
+    cond (clear n (piece tape p)) (feeding width fed (message (piece tape p) n)) (refuses 3)
+effect tape (opened width fed) Take = takes width fed
+effect tape (opened width fed) Stop = stops
+
+-- A TAKE: the width and the bits that were fed since its OPEN, and its place.
+pub record Entry : Type 0 where
+  pub width : ℕ
+  pub fed : List ℕ
+  pub place : ℕ
+
+-- A run: its TAKEs in order, and the refusal's number and place, or 0 and 0 where it stopped.
+pub record Run : Type 0 where
+  pub entries : List Entry
+  pub number : ℕ
+  pub place : ℕ
+
+abbrev pub ended : ℕ → ℕ → Run
+ended number place = record { entries = []; number = number; place = place }
+
+abbrev pub first : Entry → Run → Run
+first entry run = record { entries = entry ∷ run .entries; number = run .number; place = run .place }
+
+-- The run from a command on, where `go` is the run from a later place with a hash.
+abbrev pub follow : (ℕ → Hashing → Run) → ℕ → ℕ → Effect → Run
+follow go at next (goes hashing) = go next hashing
+follow go at next (takes width fed) = first (record { width = width; fed = fed; place = at }) (go next closed)
+follow go at next stops = ended 0 0
+follow go at next (refuses number) = ended number at
+
+abbrev pub after : (ℕ → Hashing → Run) → List ℕ → ℕ → Hashing → Reading → Run
+after go tape at hashing (Found command next) = follow go at next (effect tape hashing command)
+after go tape at hashing (Refused number place) = ended number place
+
+-- A run of at most so many commands. A command has a byte at least, so one more than the tape's length is enough.
+unfoldable pub runFor : ℕ → List ℕ → ℕ → Hashing → Run
+runFor zero tape at hashing = ended 11 (length tape)
+runFor (suc most) tape at hashing = after (runFor most tape) tape at hashing (readAt tape at)
+
+unfoldable pub runFrom : List ℕ → ℕ → Hashing → Run
+runFrom tape at hashing = runFor (suc (length tape)) tape at hashing
+
+-- A run whose digests go into so many bytes. 6: the next one does not fit.
+unfoldable pub fit : ℕ → List Entry → ℕ → ℕ → Run
+fit room [] number place = ended number place
+fit room (e ∷ entries) number place =
+    cond (leb (e .width / 8) room) (first e (fit (room - e .width / 8) entries number place)) (ended 6 (e .place))
+
+unfoldable pub within : ℕ → Run → Run
+within room run = fit room (run .entries) (run .number) (run .place)
+
+-- The run of a tape from a place at which no hash is open, with so many bytes for its digests.
+abbrev pub runInto : ℕ → List ℕ → ℕ → Run
+runInto room tape at = within room (runFrom tape at closed)
+
+-- The digests, straight after each other.
+unfoldable pub output : List Entry → List ℕ
+output [] = []
+output (e ∷ entries) = digest (e .width) (e .fed) ++ output entries
+
+-- The answer of a whole run: the count of digests, the refusal's number and place.
+abbrev pub ranOf : Run → Ran
+ranOf run = record { digests = length (run .entries); refusal = run .number; place = run .place }
+
+-- The answer of a run as far as its first TAKE: its width and the place after it, or how the run ends before one. Then what it writes.
+abbrev pub nextBy : List Entry → ℕ → ℕ → Next
+nextBy [] number place = Ended number place
+nextBy (e ∷ entries) number place = Taken (e .width) (e .place + 1)
+
+abbrev pub nextOf : Run → Next
+nextOf run = nextBy (run .entries) (run .number) (run .place)
+
+abbrev pub firstOutput : Run → List ℕ
+firstOutput run = output (take 1 (run .entries))

@@ -1,0 +1,253 @@
+// The tape run: commands are read one after the other, and each TAKE writes the digest of what its own OPEN .. TAKE fed.
+ghost use mathlib.Core.Path.{_≡_};
+ghost use Prim.Native.Nat.{_+_, _-_, _/_, _%_, _^_, _≤_, _<_};
+ghost use lib.ListN.{length};
+ghost use Rattle.hash.specs.Zero.{clear as clearOf};
+ghost use Rattle.text.specs.Text.{over};
+ghost use Rattle.reader.specs.Reading.{Inside};
+ghost use Rattle.reader.specs.declared.Command.the-variants.{Full, Part};
+ghost use Rattle.tape.specs.Run.{runInto, output, ranOf, nextOf, firstOutput};
+ghost use Rattle.tape.specs.Standing.{Obeys, Opens, Takes, Finishes, endOf, closeOf};
+use hash::Hash;
+use reader::Command;
+use reader::Reading;
+
+// The count of digests, and the refusal's number and place, 0 and 0 where the tape stopped.
+pub struct Ran {
+    pub digests: usize,
+    pub refusal: u8,
+    pub place: usize,
+}
+
+// A digest's width and the place after its TAKE, or the number and place with which the run ended before one.
+pub enum Next {
+    Taken(u16, usize),
+    Ended(u8, usize),
+}
+
+// The hash after a command, and its refusal or 0.
+struct Step {
+    hash: Hash,
+    refusal: u8,
+}
+
+// Bit k of a byte, the highest first.
+fn bit(byte: u8, k: usize) -> u8
+    requires { ⌜ k < 8 ⌝ }
+    ensures { λ r. ⌜ r ≡ byte / 2 ^ (7 - k) % 2 ⌝ }
+{
+    (byte >> (7 - k)) % 2
+}
+
+// Whether no bit of the bytes is set from a place on.
+fn is_clear(bytes: &[u8], from: usize) -> bool
+    requires { ⌜ (length (now bytes) ≤ 32) × (from < 256) ⌝ }
+    ensures { λ r. ⌜ r ≡ clearOf from (now (bytes .entry)) ⌝ }
+{
+    let mut i = from;
+    while i / 8 < bytes.len() {
+        if bit(bytes[i / 8], i % 8) != 0 {
+            return false;
+        }
+        i += 1;
+    }
+    true
+}
+
+// OPEN.
+fn opening(hash: Hash, width: u16) -> Step
+    ensures { λ r. ⌜ Opens width hash r ⌝ }
+{
+    if hash.width != 0 {
+        return Step {
+            hash: hash,
+            refusal: 12,
+        };
+    }
+    let opened = Hash::open(width);
+    let fresh = opened.hash;
+    Step {
+        hash: fresh,
+        refusal: opened.refusal,
+    }
+}
+
+// FULL.
+fn full(hash: Hash, tape: &[u8], place: usize) -> Step
+    requires { ⌜ Inside (now tape) (Full place) ⌝ }
+    ensures { λ r. ⌜ Obeys (now (tape .entry)) (Full place) hash r ⌝ }
+{
+    if hash.width == 0 {
+        return Step {
+            hash: hash,
+            refusal: 12,
+        };
+    }
+    let fed = hash.feed(&tape[place..place + 32], 256);
+    let fresh = fed.hash;
+    Step {
+        hash: fresh,
+        refusal: fed.refusal,
+    }
+}
+
+// PART.
+fn part(hash: Hash, tape: &[u8], count: u8, place: usize) -> Step
+    requires { ⌜ Inside (now tape) (Part count place) ⌝ }
+    ensures { λ r. ⌜ Obeys (now (tape .entry)) (Part count place) hash r ⌝ }
+{
+    if hash.width == 0 {
+        return Step {
+            hash: hash,
+            refusal: 12,
+        };
+    }
+    if !is_clear(&tape[place..place + 32], count as usize) {
+        return Step {
+            hash: hash,
+            refusal: 3,
+        };
+    }
+    let fed = hash.feed(&tape[place..place + 32], count as usize);
+    let fresh = fed.hash;
+    Step {
+        hash: fresh,
+        refusal: fed.refusal,
+    }
+}
+
+// TAKE needs an open hash.
+fn taking(hash: Hash) -> Step
+    ensures { λ r. ⌜ Takes hash r ⌝ }
+{
+    if hash.width == 0 {
+        return Step {
+            hash: hash,
+            refusal: 12,
+        };
+    }
+    Step {
+        hash: hash,
+        refusal: 0,
+    }
+}
+
+// The checks of a command but for those of its digest, and what it does to the hash.
+fn obey(hash: Hash, tape: &[u8], command: Command) -> Step
+    requires { ⌜ Inside (now tape) command ⌝ }
+    ensures { λ r. ⌜ Obeys (now (tape .entry)) command hash r ⌝ }
+{
+    match command {
+        Command::Open(width) => opening(hash, width),
+        Command::Full(place) => full(hash, tape, place),
+        Command::Part(count, place) => part(hash, tape, count, place),
+        Command::Take => taking(hash),
+        Command::Stop => Step {
+            hash: hash,
+            refusal: 0,
+        },
+    }
+}
+
+// The digest of an open hash, and the place after its TAKE.
+fn finish(hash: Hash, at: usize, out: &mut [u8]) -> Next
+    requires { ⌜ at + 1 < 2 ^ 64 ⌝ }
+    ensures { λ r. ⌜ Finishes hash at (now (out .entry)) (now (out .exit)) r ⌝ }
+{
+    let width = hash.width;
+    let taken = hash.take(out);
+    if taken.refusal != 0 {
+        return Next::Ended(6, at);
+    }
+    Next::Taken(width, at + 1)
+}
+
+fn refused(reading: Reading) -> Next
+    ensures { λ r. ⌜ r ≡ endOf reading ⌝ }
+{
+    match reading {
+        Reading::Found(_, _) => Next::Ended(0, 0),
+        Reading::Refused(number, place) => Next::Ended(number, place),
+    }
+}
+
+// No open hash.
+fn none() -> Hash
+    ensures { λ r. ⌜ r .width ≡ 0 ⌝ }
+{
+    Hash {
+        width: 0,
+        bits: 0,
+        state: [0; 32],
+        tail: [0; 128],
+    }
+}
+
+// The run from a place at which no hash is open, as far as its first TAKE, whose digest goes to the front of the output.
+pub fn advance(tape: &[u8], from: usize, out: &mut [u8]) -> Next
+    ensures { λ r. ⌜ (r ≡ nextOf (runInto (length (now (out .entry))) (now (tape .entry)) from)) × (now (out .exit) ≡ over (now (out .entry)) 0 (firstOutput (runInto (length (now (out .entry))) (now (tape .entry)) from))) ⌝ }
+{
+    let mut at = from;
+    let mut hash = none();
+    loop {
+        let reading = reader::read(tape, at);
+        let Reading::Found(command, after) = reading else {
+            return refused(reading);
+        };
+        let step = obey(hash, tape, command);
+        let number = step.refusal;
+        if number != 0 {
+            return Next::Ended(number, at);
+        }
+        let fresh = step.hash;
+        match command {
+            Command::Take => return finish(hash, at, out),
+            Command::Stop => return Next::Ended(0, 0),
+            _ => {}
+        }
+        hash = fresh;
+        at = after;
+    }
+}
+
+fn closing(next: Next, digests: usize) -> Ran
+    ensures { λ r. ⌜ r ≡ closeOf next digests ⌝ }
+{
+    match next {
+        Next::Taken(_, _) => Ran {
+            digests: digests,
+            refusal: 0,
+            place: 0,
+        },
+        Next::Ended(number, place) => Ran {
+            digests: digests,
+            refusal: number,
+            place: place,
+        },
+    }
+}
+
+// The whole run. Digests stand straight after each other at the front of the output; a refused command leaves those before it and the rest
+// of the output as they are.
+pub fn run(tape: &[u8], out: &mut [u8]) -> Ran
+    ensures { λ r. ⌜ (r ≡ ranOf (runInto (length (now (out .entry))) (now (tape .entry)) 0)) × (now (out .exit) ≡ over (now (out .entry)) 0 (output (runInto (length (now (out .entry))) (now (tape .entry)) 0 .entries))) ⌝ }
+{
+    let mut at = 0;
+    let mut used = 0;
+    let mut digests = 0;
+    loop {
+        let found = advance(tape, at, &mut out[used..]);
+        let Next::Taken(width, after) = found else {
+            return closing(found, digests);
+        };
+        used += wide(width / 8);
+        digests += 1;
+        at = after;
+    }
+}
+
+fn wide(x: u16) -> usize
+    ensures { λ r. ⌜ r ≡ x ⌝ }
+{
+    x as usize
+}

@@ -1,0 +1,87 @@
+-- Laws of numbers and bytes as text.
+use mathlib.Core.Bool.{Bool, true, false, cond}
+use mathlib.Core.List.{List, [], _∷_, _++_, append-assoc}
+use mathlib.Core.Path.{_≡_, refl, ap, _∙_}
+use Prim.Native.Nat.{ℕ, zero, suc, _+_, _-_, _*_, _/_, _%_, _≤_, _<_}
+use native.Mathlib.Nat.{not-suc-le-zero}
+use native.Mathlib.Numerals.{add-one}
+use native.Mathlib.Omega.{arith}
+use borrow.Author.Tests.{lt-ltb, le-ltb}
+use lib.Dec.{ltb}
+use lib.ListN.{length, getD, take, length-append}
+use lib.Seq.{take-suc}
+use Rattle.text.specs.Text.{digits, decimal, glyph, hex, line, digestWord, doneWord, refusedWord, atWord, digestLine, doneLine, refusedLine}
+
+-- The two digits of a byte.
+abbrev pub pair : ℕ → List ℕ
+pair b = glyph (b / 16) ∷ glyph (b % 16) ∷ []
+
+pub length-hex : (l : List ℕ) → length (hex l) ≡ 2 * length l
+unfolding hex
+length-hex [] = refl
+length-hex (b ∷ l) = omega (arith, length-hex l)
+
+hex-append : (a b : List ℕ) → hex (a ++ b) ≡ hex a ++ hex b
+unfolding hex
+hex-append [] b = refl
+hex-append (x ∷ a) b = ap {B = List ℕ} (λ (l : List ℕ). glyph (x / 16) ∷ glyph (x % 16) ∷ l) (hex-append a b)
+
+pub hex-more : (l : List ℕ) (i : ℕ) → i < length l → hex (take (i + 1) l) ≡ hex (take i l) ++ pair (getD l i 0)
+unfolding hex
+hex-more l i here = ap (λ (k : ℕ). hex (take k l)) (add-one i) ∙ ap hex (take-suc l i 0 here) ∙ hex-append (take i l) (getD l i 0 ∷ [])
+
+-- The quote: 8 digits are those of 4 bytes.
+pub hex-quote : (l : List ℕ) → hex (take 4 l) ≡ take 8 (hex l)
+unfolding hex
+hex-quote [] = refl
+hex-quote (a ∷ []) = refl
+hex-quote (a ∷ b ∷ []) = refl
+hex-quote (a ∷ b ∷ c ∷ []) = refl
+hex-quote (a ∷ b ∷ c ∷ d ∷ l) = refl
+
+-- A number has at most as many digits as it may have.
+cond-le : (b : Bool) (x y : List ℕ) (k : ℕ) → length x ≤ k → length y ≤ k → length (cond b x y) ≤ k
+cond-le true x y k p q = p
+cond-le false x y k p q = q
+
+pub digits-le : (k n : ℕ) → length (digits k n) ≤ k
+unfolding digits
+digits-le zero n = omega arith
+digits-le (suc k) n =
+    cond-le (ltb n 10) _ _ (suc k) (omega arith)
+    (omega (arith, length-append (digits k (n / 10)) ((48 + n % 10) ∷ []), digits-le k (n / 10)))
+
+pub digits-last : (k n : ℕ) → n < 10 → 0 < k → digits k n ≡ (48 + n) ∷ []
+unfolding digits
+digits-last zero n small some = absurd (not-suc-le-zero some)
+digits-last (suc k) n small some = simp (lt-ltb n 10 small)
+
+pub digits-more : (k n : ℕ) → 10 ≤ n → 0 < k → digits k n ≡ digits (k - 1) (n / 10) ++ ((48 + n % 10) ∷ [])
+unfolding digits
+digits-more zero n large some = absurd (not-suc-le-zero some)
+digits-more (suc k) n large some =
+    let fewer : k ≡ suc k - 1 = omega arith in
+    simp (le-ltb n 10 large) (ap (λ (j : ℕ). digits j (n / 10) ++ ((48 + n % 10) ∷ [])) fewer)
+
+pub digits-none : (k n : ℕ) → k ≡ 0 → digits k n ≡ []
+unfolding digits
+digits-none k n e = ap (λ (j : ℕ). digits j n) e
+
+-- The lines, word by word with the byte after each.
+abbrev pub spaced : List ℕ → List ℕ
+spaced word = word ++ (32 ∷ [])
+
+abbrev pub ended : List ℕ → List ℕ
+ended word = word ++ (10 ∷ [])
+
+pub digest-line : (n w : ℕ) (d : List ℕ) → spaced digestWord ++ spaced (decimal n) ++ spaced (decimal w) ++ spaced (hex d) ++ ended (hex (take 4 d)) ≡ digestLine n w d
+unfolding digestLine line
+digest-line n w d = simp (hex-quote d, append-assoc)
+
+pub done-line : (n : ℕ) → spaced doneWord ++ ended (decimal n) ≡ doneLine n
+unfolding doneLine line
+done-line n = refl
+
+pub refused-line : (n p : ℕ) → spaced refusedWord ++ spaced (decimal n) ++ spaced atWord ++ ended (decimal p) ≡ refusedLine n p
+unfolding refusedLine line
+refused-line n p = simp append-assoc

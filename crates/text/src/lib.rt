@@ -1,0 +1,106 @@
+// The lines that `seal` prints, written into a lent text.
+ghost use mathlib.Core.Path.{_≡_};
+ghost use mathlib.Core.List.{[], _∷_, _++_};
+ghost use Prim.Native.Nat.{_+_, _*_, _≤_, _<_};
+ghost use lib.ListN.{length};
+ghost use Rattle.text.specs.Text.{over, digits as digitsOf, decimal as decimalOf, glyph as glyphOf, hex as hexOf, digestLine, doneLine, refusedLine};
+
+// Line k of the digests: `digest`, k, the width, the digest and its quote.
+pub fn digest_line(text: &mut [u8], number: usize, width: u16, digest: &[u8]) -> usize
+    requires { ⌜ (192 ≤ length (now text)) × (4 ≤ length (now digest)) × (length (now digest) ≤ 64) ⌝ }
+    ensures { λ r. ⌜ (now (text .exit) ≡ over (now (text .entry)) 0 (digestLine number width (now (digest .entry)))) × (r ≡ length (digestLine number width (now (digest .entry)))) ⌝ }
+{
+    let a = put(text, 0, b"digest ");
+    let b = decimal(text, a, number as u64, 32);
+    let c = decimal(text, b, width as u64, 32);
+    let d = hex(text, c, digest, 32);
+    hex(text, d, &digest[..4], 10)
+}
+
+pub fn done_line(text: &mut [u8], count: usize) -> usize
+    requires { ⌜ 192 ≤ length (now text) ⌝ }
+    ensures { λ r. ⌜ (now (text .exit) ≡ over (now (text .entry)) 0 (doneLine count)) × (r ≡ length (doneLine count)) ⌝ }
+{
+    let a = put(text, 0, b"done ");
+    decimal(text, a, count as u64, 10)
+}
+
+pub fn refused_line(text: &mut [u8], number: u8, place: usize) -> usize
+    requires { ⌜ 192 ≤ length (now text) ⌝ }
+    ensures { λ r. ⌜ (now (text .exit) ≡ over (now (text .entry)) 0 (refusedLine number place)) × (r ≡ length (refusedLine number place)) ⌝ }
+{
+    let a = put(text, 0, b"refused ");
+    let b = decimal(text, a, number as u64, 32);
+    let c = put(text, b, b"at ");
+    decimal(text, c, place as u64, 10)
+}
+
+// Each of these writes at a place and answers the place after.
+
+fn put(text: &mut [u8], at: usize, s: &[u8]) -> usize
+    requires { ⌜ at + length (now s) ≤ length (now text) ⌝ }
+    ensures { λ r. ⌜ (now (text .exit) ≡ over (now (text .entry)) at (now (s .entry))) × (r ≡ at + length (now (s .entry))) ⌝ }
+{
+    let mut i = 0;
+    while i < s.len() {
+        text[at + i] = s[i];
+        i += 1;
+    }
+    at + i
+}
+
+// A number and the byte after it.
+fn decimal(text: &mut [u8], at: usize, n: u64, end: u8) -> usize
+    requires { ⌜ at + 21 ≤ length (now text) ⌝ }
+    ensures { λ r. ⌜ (now (text .exit) ≡ over (now (text .entry)) at (decimalOf n ++ (end ∷ []))) × (r ≡ at + length (decimalOf n ++ (end ∷ []))) × (r ≤ at + 21) ⌝ }
+{
+    let next = digits(text, at, 20, n);
+    text[next] = end;
+    next + 1
+}
+
+fn digits(text: &mut [u8], at: usize, most: usize, n: u64) -> usize
+    requires { ⌜ at + most ≤ length (now text) ⌝ }
+    ensures { λ r. ⌜ (now (text .exit) ≡ over (now (text .entry)) at (digitsOf most n)) × (r ≡ at + length (digitsOf most n)) × (r ≤ at + most) ⌝ }
+{
+    if most == 0 {
+        return at;
+    }
+    if n < 10 {
+        text[at] = digit(n);
+        return at + 1;
+    }
+    let next = digits(text, at, most - 1, n / 10);
+    text[next] = digit(n % 10);
+    next + 1
+}
+
+fn digit(d: u64) -> u8
+    requires { ⌜ d < 10 ⌝ }
+    ensures { λ r. ⌜ r ≡ 48 + d ⌝ }
+{
+    48 + d as u8
+}
+
+// Bytes in hexadecimal and the byte after them.
+fn hex(text: &mut [u8], at: usize, bytes: &[u8], end: u8) -> usize
+    requires { ⌜ at + 2 * length (now bytes) + 1 ≤ length (now text) ⌝ }
+    ensures { λ r. ⌜ (now (text .exit) ≡ over (now (text .entry)) at (hexOf (now (bytes .entry)) ++ (end ∷ []))) × (r ≡ at + length (hexOf (now (bytes .entry)) ++ (end ∷ []))) × (r ≡ at + 2 * length (now (bytes .entry)) + 1) ⌝ }
+{
+    let mut i = 0;
+    while i < bytes.len() {
+        let b = bytes[i];
+        text[at + 2 * i] = glyph(b / 16);
+        text[at + 2 * i + 1] = glyph(b % 16);
+        i += 1;
+    }
+    text[at + 2 * i] = end;
+    at + 2 * i + 1
+}
+
+fn glyph(d: u8) -> u8
+    requires { ⌜ d < 16 ⌝ }
+    ensures { λ r. ⌜ r ≡ glyphOf d ⌝ }
+{
+    if d < 10 { 48 + d } else { 87 + d }
+}
