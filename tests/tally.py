@@ -7,7 +7,7 @@ import sys
 
 sys.dont_write_bytecode = True
 HERE = os.path.dirname(os.path.abspath(__file__))
-sys.path[:0] = [os.path.join(HERE, "reference"), os.path.join(HERE, "appendix_a")]
+sys.path[:0] = [os.path.join(HERE, name) for name in ("reference", "appendix_a", "tape")]
 
 SHOWN = 10
 
@@ -39,6 +39,15 @@ def random_arguments(seed, count):
     parser.add_argument("--count", type=int, default=count)
     arguments = parser.parse_args()
     return random.Random(arguments.seed), arguments.count
+
+
+def read_bytes(text):
+    """The bytes of a data file: ff00*3,80 is ff 00 ff 00 ff 00 80, - is none."""
+    data = b""
+    for part in text.replace(",", " ").split():
+        value, _, times = part.partition("*")
+        data += b"" if value == "-" else bytes.fromhex(value) * int(times or 1)
+    return data
 
 
 def message(rng, bits):

@@ -8,22 +8,13 @@ answer; a refused call leaves everything it was lent as it was.
 import os
 import sys
 
-from tally import HERE, Tally
+from tally import HERE, Tally, read_bytes
 import door_ref
 import product
 
 LENT = bytes((91 * k + 7) % 256 for k in range(512))
 STATE = bytes((59 * k + 3) % 256 for k in range(128))
 NUMBER = 0x0123456789ABCDEF
-
-
-def read_bytes(text):
-    """ff00*3,80 is ff 00 ff 00 ff 00 80."""
-    data = b""
-    for part in text.split(",") if text != "-" else []:
-        value, _, times = part.partition("*")
-        data += bytes.fromhex(value) * int(times or 1)
-    return data
 
 
 def read_form(text):
