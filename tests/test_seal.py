@@ -3,10 +3,10 @@
 
     test_seal.py [--seed S] [--count N]
 
-The cases of tests/tape/cases.txt, tapes at 65,536 bytes and around, a tape of
-hundreds of records, and N random tapes, most of them damaged, against the
-reference.  Also input in small pieces, no input to read, and output closed
-early.
+The cases of tests/tape/cases.txt, a tape cut at every byte, tapes at 65,536
+bytes and around, a tape of hundreds of records, and N random tapes, most of
+them damaged, against the reference.  Also input in small pieces, input that
+cannot be read, and output closed early.
 """
 
 import os
@@ -62,6 +62,12 @@ def main():
     for tape, room, listing in tapes.cases():
         if room is None:
             tally.equal(seal(tape), listing, "cases.txt: " + tape.hex()[:60])
+
+    for tape, place in tapes.cuts():
+        what = "cut at %d" % len(tape)
+        found = seal(tape)
+        tally.equal(found, tape_ref.listing(tape), what)
+        tally.equal(found.splitlines()[-1:], ["refused 11 at %d" % place], what)
 
     # The same tape below the limit, at it and above it.
     for size in (65535, 65536):

@@ -3,9 +3,10 @@
 
     test_tape.py [--seed S] [--count N]
 
-The cases of tests/tape/cases.txt, tapes at 65,536 bytes and around, tapes of
-hundreds of records, and N random tapes, most of them damaged, against the
-reference; with the output exact, longer and too short.
+The cases of tests/tape/cases.txt, a tape cut at every byte, tapes at
+65,536 bytes and around, tapes of hundreds of records, and N random tapes, most
+of them damaged, against the reference; with the output exact, longer and too
+short.
 """
 
 import collections
@@ -41,6 +42,10 @@ def main():
         expected = refusal, written + out[len(written):], len(digests), place if refusal else 6
         tally.equal(product.tape(tape, out, 5, 6), expected, "cases.txt: " + tape.hex()[:60])
         met[refusal] += 1
+
+    for tape, place in tapes.cuts():
+        found = check(tape, 96, "cut at %d" % len(tape))
+        tally.equal((found[0], found[3]), (11, place), "cut at %d" % len(tape))
 
     for size in (65535, 65536, 65537):
         for end in (b"", tapes.TAKE + tapes.STOP):

@@ -44,6 +44,17 @@ def answer(listing):
     return digests, *((int(last[1]), int(last[3])) if last[0] == "refused" else (0, 0))
 
 
+def cuts():
+    """(tape, place) of a tape with every command, cut at every byte; the place
+    is that of its refusal 11."""
+    commands = [opening(256), full(bytes(range(32))), part(9, b"\xa5\x80" + bytes(30)), TAKE,
+                opening(512), TAKE, STOP]
+    tape, starts = b"".join(commands), [0]
+    for command in commands:
+        starts.append(starts[-1] + len(command))
+    return [(tape[:n], max(start for start in starts if start <= n)) for n in range(len(tape))]
+
+
 # Random tapes, as lists of commands
 
 def record(rng, longest):
