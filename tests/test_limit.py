@@ -61,7 +61,7 @@ def check_messages(tally):
     zeros = map_memory(ZEROS)
     end = (ctypes.c_uint8 * PAGE).from_address(zeros + ZEROS - PAGE)
 
-    out, empty = Output(64), Output(0)
+    out = Output(64)
     tally.equal(door.simd_hash(512, zeros, 2 ** 29, LIMIT, *out.arguments()), 0, "hash at the limit")
     expected = Output(64)
     baseline = ctypes.CDLL(os.path.join(product.BUILT, "libbaseline.so"))
@@ -76,18 +76,21 @@ def check_messages(tally):
             (2 ** 29 + 1, LIMIT + 10, 0xC0, 2)):
         end[0] = last
         what = "%d bits in %d bytes: " % (bits, size)
-        for output in (Output(64), empty):
-            before = output.contents()
-            found = door.simd_hash(256, zeros, size, bits, *output.arguments())
-            tally.equal((found, output.contents()), (refusal, before), what + "hash")
+        for room in (64, 0):
+            out = Output(room)
+            before = out.contents()
+            found = door.simd_hash(256, zeros, size, bits, *out.arguments())
+            tally.equal((found, out.contents()), (refusal, before), what + "hash")
+        out = Output(0)
+        before = out.contents()
         form = product.open(256, bytes(134))[1]
         lent = product.Lent(form)
-        found = door.simd_feed(*lent.arguments(), zeros, size, bits, output.numbers()[0])
-        tally.equal((found, lent.after(), output.contents()), (refusal, form, before), what + "feed")
+        found = door.simd_feed(*lent.arguments(), zeros, size, bits, out.numbers()[0])
+        tally.equal((found, lent.after(), out.contents()), (refusal, form, before), what + "feed")
         for a, b in (((zeros, size, bits), (zeros, 0, 0)), ((zeros, 0, 0), (zeros, size, bits)),
                      ((zeros, size, bits), (zeros, 0, 1))):
-            found = door.simd_compare(256, *a, *b, *output.numbers())
-            tally.equal((found, output.contents()), (refusal, before), what + "compare")
+            found = door.simd_compare(256, *a, *b, *out.numbers())
+            tally.equal((found, out.contents()), (refusal, before), what + "compare")
     end[0] = 0
     out = Output(0)
     found = door.simd_compare(384, zeros, 2 ** 29, LIMIT, zeros, 0, 0, *out.numbers())
