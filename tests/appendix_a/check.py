@@ -1,6 +1,17 @@
 #!/usr/bin/env python3
-"""Compare the data files of this folder with the reference implementation."""
+"""Compare the data files of this folder with an implementation.
 
+Run alone, with the reference.  `check` takes any subject with
+
+    digest(width, data, bits)               the digest
+    start(width)                            the state before the first block
+    compression(width, last, state, block)  {label: list of values}, new state
+
+States are the subject's own.  Labels are those of README.md, as "W 3" or
+"S 31 A"; what a subject has no label for is not compared.
+"""
+
+import collections
 import os
 import sys
 
@@ -10,67 +21,102 @@ sys.path.insert(0, os.path.join(HERE, os.pardir, "reference"))
 import simd_ref as ref  # noqa: E402
 
 
-def computed(width, last, state, block):
-    """{label: list of values} of one compression, and its new state."""
-    values = {}
-    y = ref.transform(width, last, block)
-    for i in range(0, len(block), 8):
-        values["M %d" % i] = block[i:i + 8]
-    for i in range(0, len(y), 8):
-        values["y %d" % i] = y[i:i + 8]
-    for i, row in enumerate(ref.matrix(width, last, block)):
-        values["Z %d" % i] = row
-    for i, row in enumerate(ref.expand(width, last, block)):
-        values["W %d" % i] = row
-    states = ref.compress_states(width, last, state, block)
-    named = [("I", state), ("X", states[0]), ("O", states[-1])]
-    named += [("S %d" % i, s) for i, s in enumerate(states[1:])]
-    for name, s in named:
-        for column, words in zip("ABCD", s):
-            values["%s %s" % (name, column)] = words
-    return values, states[-1]
+def columns(name, state):
+    """The labels of a state given by its columns."""
+    return {"%s %s" % (name, c): words for c, words in zip("ABCD", state)}
 
 
-def check(path):
-    """(values compared, failures) of one data file."""
-    count, failures = 0, []
-    with open(path, encoding="ascii") as f:
-        for n, line in enumerate(f, 1):
-            field = line.split()
-            if field[0] == "width":
-                width = int(field[1])
-            elif field[0] == "message":
+class Reference:
+    """The reference implementation as a subject."""
+
+    digest = staticmethod(ref.digest)
+    start = staticmethod(ref.start_state)
+
+    @staticmethod
+    def compression(width, last, state, block):
+        values = {}
+        y = ref.transform(width, last, block)
+        for i in range(0, len(block), 8):
+            values["M %d" % i] = block[i:i + 8]
+        for i in range(0, len(y), 8):
+            values["y %d" % i] = y[i:i + 8]
+        for i, row in enumerate(ref.matrix(width, last, block)):
+            values["Z %d" % i] = row
+        for i, row in enumerate(ref.expand(width, last, block)):
+            values["W %d" % i] = row
+        states = ref.compress_states(width, last, state, block)
+        values.update(columns("I", state))
+        values.update(columns("X", states[0]))
+        for i, s in enumerate(states[1:]):
+            values.update(columns("S %d" % i, s))
+        values.update(columns("O", states[-1]))
+        return values, states[-1]
+
+
+def path_of(width):
+    return os.path.join(HERE, "simd%d.txt" % width)
+
+
+def messages(width):
+    """(data, bits, digest) of each message in a width's file."""
+    found = []
+    with open(path_of(width), encoding="ascii") as f:
+        for field in map(str.split, f):
+            if field[0] == "message":
                 bits = int(field[3])
             elif field[0] == "data":
                 data = b"" if field[1] == "-" else bytes.fromhex(field[1])
-                blocks = ref.all_blocks(width, data, bits)
-                state = ref.start_state(width)
             elif field[0] == "digest":
-                count += 1
-                if ref.digest(width, data, bits).hex() != field[1]:
-                    failures.append("line %d" % n)
-            elif field[0] == "block":
+                found.append((data, bits, field[1]))
+    return found
+
+
+def check(width, subject):
+    """(values compared by kind, failures) of a width's file."""
+    counts, failures = collections.Counter(), []
+
+    def compare(kind, found, expected, line):
+        counts[kind] += 1
+        if found != expected:
+            failures.append("line %d" % line)
+
+    with open(path_of(width), encoding="ascii") as f:
+        for n, line in enumerate(f, 1):
+            field = line.split()
+            kind = field[0]
+            if kind == "width":
+                assert int(field[1]) == width
+            elif kind == "message":
+                bits = int(field[3])
+            elif kind == "data":
+                data = b"" if field[1] == "-" else bytes.fromhex(field[1])
+                blocks = ref.all_blocks(width, data, bits)
+                state = subject.start(width)
+            elif kind == "digest":
+                compare(kind, subject.digest(width, data, bits).hex(), field[1], n)
+            elif kind == "block":
                 last, block = blocks[int(field[1])]
                 assert last == bool(int(field[3]))
-                values, state = computed(width, last, state, block)
+                values, state = subject.compression(width, last, state, block)
             else:
-                keys = 3 if field[0] == "S" else 2
-                base = 10 if field[0] == "y" else 16
-                expected = values[" ".join(field[:keys])]
-                assert len(expected) == len(field) - keys
-                for text, value in zip(field[keys:], expected):
+                keys = 3 if kind == "S" else 2
+                base = 10 if kind == "y" else 16
+                found = values.get(" ".join(field[:keys]))
+                if found is None:
+                    continue
+                assert len(found) == len(field) - keys
+                for text, value in zip(field[keys:], found):
                     if text != "-":
-                        count += 1
-                        if int(text, base) != value:
-                            failures.append("line %d" % n)
-    return count, failures
+                        compare(kind, value, int(text, base), n)
+    return counts, failures
 
 
 def main():
     bad = 0
     for width in ref.WIDTHS:
-        count, failures = check(os.path.join(HERE, "simd%d.txt" % width))
-        print("simd%d.txt: %d values, %d failures" % (width, count, len(failures)))
+        counts, failures = check(width, Reference)
+        print("simd%d.txt: %d values, %d failures"
+              % (width, sum(counts.values()), len(failures)))
         for line in failures:
             print("  " + line)
         bad += len(failures)

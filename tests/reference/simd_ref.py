@@ -20,6 +20,7 @@ words; R is 4 for the small family (224, 256) and 8 for the large one.
     final_state / digest
 """
 
+import operator
 import sys
 
 WIDTHS = (224, 256, 384, 512)
@@ -116,7 +117,7 @@ def transform(width, last, block):
         raise ValueError("block of %d bytes" % len(block))
     y = []
     for i in range(n):
-        total = sum(b * w for b, w in zip(block, ROOTS[r][i]))
+        total = sum(map(operator.mul, block, ROOTS[r][i]))
         total += POWERS[r][-i % n]
         if last:
             total += POWERS[r][-3 * i % n]

@@ -1,0 +1,230 @@
+/* Speed of the library beside the baselines of tests/baseline.
+
+     bench                 a line of figures for each task
+     bench count TASK WHO  runs it once, in the function `counted`
+
+   The figures of a task are taken in turns: library, portable, sse2, and again;
+   of each the best time of all turns is kept. */
+
+#include <stdint.h>
+#include <stdio.h>
+#include <stdlib.h>
+#include <string.h>
+#include <time.h>
+#include <x86intrin.h>
+
+#include "simd.h"
+
+void base_hash(int width, const uint8_t *msg, uint64_t bits, uint8_t *out);
+void sse2_compress(int large, int last, uint32_t *state, const uint8_t *block);
+
+enum { LONG = 1 << 16, SHORT = 64, SHORTS = 256, TURNS = 200 };
+enum { LIBRARY, PORTABLE, SSE2, WHO };
+
+static uint8_t message[LONG + 1], other[LONG + 1], out[SIMD_DIGEST_MAX];
+static uint8_t form[SIMD_FORM_LARGE], fresh[SIMD_FORM_LARGE];
+static uint64_t number, verdict;
+
+/* SSE2 baseline: whole messages over sse2_compress. */
+
+static uint32_t sse2_start[2][32];  /* widths 256 and 512 */
+
+/* The starting state is the compression of the function's name. */
+static void sse2_prepare(void)
+{
+    for (int large = 0; large < 2; large++) {
+        uint8_t name[128] = {0};
+        sprintf((char *)name, "SIMD-%d v1.1", large ? 512 : 256);
+        sse2_compress(large, 0, sse2_start[large], name);
+    }
+}
+
+static void sse2_hash(int width, const uint8_t *msg, size_t bytes, uint8_t *digest)
+{
+    int large = width > 256;
+    size_t size = large ? 128 : 64;
+    uint32_t state[32];
+    uint8_t block[128];
+    size_t left = bytes;
+    memcpy(state, sse2_start[large], sizeof state);
+    for (; left >= size; left -= size, msg += size)
+        sse2_compress(large, 0, state, msg);
+    memset(block, 0, sizeof block);
+    if (left) {
+        memcpy(block, msg, left);
+        sse2_compress(large, 0, state, block);
+        memset(block, 0, sizeof block);
+    }
+    for (int k = 0; k < 8; k++)
+        block[k] = (uint8_t)((uint64_t)bytes * 8 >> 8 * k);
+    sse2_compress(large, 1, state, block);
+    memcpy(digest, state, width / 8);
+}
+
+static void refused(uint8_t number_of_refusal)
+{
+    if (number_of_refusal) {
+        fprintf(stderr, "refused %u\n", number_of_refusal);
+        exit(1);
+    }
+}
+
+static void hash_with(int who, int width, const uint8_t *data, size_t bytes)
+{
+    if (who == LIBRARY)
+        refused(simd_hash((uint16_t)width, data, bytes, 8 * (uint64_t)bytes, out, sizeof out));
+    else if (who == PORTABLE)
+        base_hash(width, data, 8 * (uint64_t)bytes, out);
+    else
+        sse2_hash(width, data, bytes, out);
+}
+
+static void whole(int who, int width)
+{
+    hash_with(who, width, message, LONG);
+}
+
+/* The whole message as one piece after a tail of some bits; the baselines,
+   which have no tail, hash the message. */
+static void feed_after(int who, int width, uint64_t tail)
+{
+    static const uint8_t nothing[1] = {0};
+    if (who != LIBRARY) {
+        hash_with(who, width, message, LONG);
+        return;
+    }
+    size_t size = SIMD_FORM(width);
+    memcpy(form, fresh, size);
+    refused(simd_feed(form, size, nothing, 1, tail, &number));
+    refused(simd_feed(form, size, message, LONG, 8 * (uint64_t)LONG, &number));
+    refused(simd_take(form, size, out, sizeof out, &number));
+}
+
+static void feed_aligned(int who, int width)
+{
+    feed_after(who, width, 0);
+}
+
+static void feed_byte(int who, int width)
+{
+    feed_after(who, width, 8);
+}
+
+static void feed_odd(int who, int width)
+{
+    feed_after(who, width, 3);
+}
+
+static void shorts(int who, int width)
+{
+    for (int k = 0; k < SHORTS; k++)
+        hash_with(who, width, message + k, SHORT);
+}
+
+/* Two long messages that differ in their last byte; the baselines hash both. */
+static void comparison(int who, int width)
+{
+    if (who == LIBRARY) {
+        refused(simd_compare((uint16_t)width, message, LONG, 8 * (uint64_t)LONG,
+                             other, LONG, 8 * (uint64_t)LONG, &verdict, &number));
+        return;
+    }
+    hash_with(who, width, message, LONG);
+    hash_with(who, width, other, LONG);
+}
+
+struct task {
+    const char *name;
+    void (*run)(int who, int width);
+    size_t bytes;
+};
+
+static const struct task TASKS[] = {
+    {"long message, one call", whole, LONG},
+    {"long piece, no tail", feed_aligned, LONG},
+    {"long piece, tail of 8 bits", feed_byte, LONG},
+    {"long piece, tail of 3 bits", feed_odd, LONG},
+    {"64-byte messages", shorts, SHORT * SHORTS},
+    {"comparison of long messages", comparison, 2 * LONG},
+};
+enum { COUNT = sizeof TASKS / sizeof *TASKS };
+static const int WIDTHS[] = {256, 512};
+
+static double seconds(void)
+{
+    struct timespec t;
+    clock_gettime(CLOCK_MONOTONIC, &t);
+    return (double)t.tv_sec + 1e-9 * (double)t.tv_nsec;
+}
+
+static void prepare(int width)
+{
+    refused(simd_open((uint16_t)width, fresh, sizeof fresh));
+}
+
+static void measure(const struct task *task, int width)
+{
+    double time[WHO] = {1e9, 1e9, 1e9};
+    uint64_t cycles[WHO] = {UINT64_MAX, UINT64_MAX, UINT64_MAX};
+    prepare(width);
+    for (int turn = 0; turn < TURNS; turn++)
+        for (int who = 0; who < WHO; who++) {
+            double before = seconds();
+            uint64_t start = __rdtsc();
+            task->run(who, width);
+            uint64_t used = __rdtsc() - start;
+            double elapsed = seconds() - before;
+            if (used < cycles[who])
+                cycles[who] = used;
+            if (elapsed < time[who])
+                time[who] = elapsed;
+        }
+    printf("%s|%d", task->name, width);
+    for (int who = 0; who < WHO; who++)
+        printf("|%.1f|%.2f", (double)task->bytes / time[who] / 1e6,
+               (double)cycles[who] / (double)task->bytes);
+    printf("|%zu\n", task->bytes);
+    fflush(stdout);
+}
+
+void counted(const struct task *task, int who, int width);
+
+__attribute__((noinline)) void counted(const struct task *task, int who, int width)
+{
+    task->run(who, width);
+}
+
+/* Each implementation gives the same digests before any is timed. */
+static void check(void)
+{
+    uint8_t first[SIMD_DIGEST_MAX];
+    for (size_t w = 0; w < 2; w++)
+        for (size_t bytes = 0; bytes <= LONG; bytes = 2 * bytes + 1)
+            for (int who = 0; who < WHO; who++) {
+                hash_with(who, WIDTHS[w], message, bytes);
+                if (who == LIBRARY)
+                    memcpy(first, out, sizeof first);
+                else if (memcmp(first, out, (size_t)WIDTHS[w] / 8)) {
+                    fprintf(stderr, "digests differ at %d, %zu bytes\n", WIDTHS[w], bytes);
+                    exit(1);
+                }
+            }
+}
+
+int main(int argc, char **argv)
+{
+    for (int k = 0; k < LONG; k++)
+        other[k] = message[k] = (uint8_t)(k * 167 + (k >> 8));
+    other[LONG - 1] ^= 1;
+    sse2_prepare();
+    if (argc == 4 && strcmp(argv[1], "count") == 0) {
+        int which = atoi(argv[2]), width = WIDTHS[which % 2];
+        prepare(width);
+        counted(&TASKS[which / 2], atoi(argv[3]), width);
+        return 0;
+    }
+    check();
+    for (int k = 0; k < 2 * COUNT; k++)
+        measure(&TASKS[k / 2], WIDTHS[k % 2]);
+    return 0;
+}

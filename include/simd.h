@@ -1,0 +1,266 @@
+/* simd.h - SIMD v1.1: digests of bit strings, comparison, sealing tape
+
+   Link with libsimd_c.a (x86-64).  C99 and C++.
+
+   WIDTHS AND FAMILIES
+     A width is 224, 256, 384 or 512, the bits of the digest.  Widths 224 and
+     256 are the small family, 384 and 512 the large one.  The sizes below
+     follow from the width.
+
+   MESSAGES
+     A message is a string of bits, given as bytes and a count of bits.  In a
+     byte the first bit is the highest.  Bytes after the last one used are
+     ignored; bits after the last one in that byte have to be 0.
+
+   ANSWERS
+     Each call returns 0, or the number of the refusal.  Where several
+     conditions are met, the one listed first under the call is answered.  A
+     refused call writes to nothing that it was lent, also not to the numbers
+     behind pointers; simd_tape, whose answer has more parts, says what it
+     writes.  An output that is longer than needed keeps its remaining
+     elements.
+
+   POINTERS
+     Each call is defined for all values of its arguments, as long as
+       - a pointer with a length points to that many elements; it is not null,
+         also where the length is 0;
+       - a pointer without a length points to one number;
+       - pointers are aligned for their type;
+       - what a call writes to overlaps nothing else that it was given.
+     Calls keep nothing between them, allocate nothing and may run on several
+     threads at once, each on buffers of its own. */
+
+#ifndef SIMD_H
+#define SIMD_H
+
+#include <stddef.h>
+#include <stdint.h>
+
+#ifdef __cplusplus
+extern "C" {
+#else
+#include <stdbool.h>
+#endif
+
+/* SIZES, in bytes unless said otherwise */
+
+#define SIMD_BLOCK_SMALL 64     /* a block, and a state, of the small family */
+#define SIMD_BLOCK_LARGE 128    /* and of the large family */
+#define SIMD_FORM_SMALL 134     /* a stored form: 6 bytes, state, block */
+#define SIMD_FORM_LARGE 262
+#define SIMD_WORDS_SMALL 128    /* an expanded block, in words of 32 bits */
+#define SIMD_WORDS_LARGE 256
+#define SIMD_DIGEST_MAX 64      /* the longest digest */
+
+/* The same for one of the four widths. */
+#define SIMD_BLOCK(width) ((width) <= 256 ? SIMD_BLOCK_SMALL : SIMD_BLOCK_LARGE)
+#define SIMD_FORM(width) ((width) <= 256 ? SIMD_FORM_SMALL : SIMD_FORM_LARGE)
+#define SIMD_WORDS(width) ((width) <= 256 ? SIMD_WORDS_SMALL : SIMD_WORDS_LARGE)
+#define SIMD_DIGEST(width) ((width) / 8)
+
+/* The most bits of a message. */
+#define SIMD_BITS_MAX UINT64_C(4294967295)
+
+/* REFUSALS */
+
+#define SIMD_ACCEPTED 0
+#define SIMD_REFUSED_WIDTH 1     /* the width is none of the four */
+#define SIMD_REFUSED_COUNT 2     /* more bits than the bytes have */
+#define SIMD_REFUSED_SPARE 3     /* a bit set past the count in the last byte used */
+#define SIMD_REFUSED_TOTAL 4     /* more than SIMD_BITS_MAX bits in all */
+#define SIMD_REFUSED_HASH 5      /* an open hash that is none; no call here answers it */
+#define SIMD_REFUSED_OUTPUT 6    /* the output is too short */
+#define SIMD_REFUSED_BLOCK 7     /* a block or state of another size than the width's */
+#define SIMD_REFUSED_FORM 8      /* a stored form of another size than its width's */
+#define SIMD_REFUSED_TAIL 9      /* a stored form with a bit set past the tail */
+#define SIMD_REFUSED_COMMAND 10  /* tape: no such command */
+#define SIMD_REFUSED_END 11      /* tape: ends in a command, or before STOP */
+#define SIMD_REFUSED_ORDER 12    /* tape: OPEN while open; FULL, PART, TAKE while not */
+#define SIMD_REFUSED_TAPE 13     /* program seal: tape above 65,536 bytes; no call here answers it */
+
+/* VERDICTS of simd_compare */
+
+#define SIMD_SAME 0
+#define SIMD_APART 1
+#define SIMD_MEET 2
+
+/* OPEN HASH
+
+   An open hash is held by the caller as its stored form, SIMD_FORM(width)
+   bytes: the width (2 bytes, little endian), the bit length so far (4 bytes,
+   little endian), the state after all full blocks (words little endian, in the
+   order A0, A1, .., B0, .., D7), then one block with the bits that fill no
+   block yet and zeros after them.  To store a hash is to keep these bytes.
+   A form with a state that no message reaches is accepted, and what follows is
+   worked out from that state.
+
+   A form handed over is refused with
+     SIMD_REFUSED_FORM    form_len is below 2
+     SIMD_REFUSED_WIDTH   its width is none of the four
+     SIMD_REFUSED_FORM    form_len is not SIMD_FORM(width)
+     SIMD_REFUSED_TAIL    a bit of its last block is set past the tail, which has
+                          as many bits as the length leaves over full blocks
+   in this order; below, "those of a form". */
+
+/* simd_open - open a hash
+
+   Writes the stored form of the empty hash to the first SIMD_FORM(width) bytes
+   of form.
+
+   Refusals, in order:
+     SIMD_REFUSED_WIDTH
+     SIMD_REFUSED_OUTPUT  form_len is below SIMD_FORM(width) */
+uint8_t simd_open(uint16_t width, uint8_t *form, size_t form_len);
+
+/* simd_feed - feed a piece of a message
+
+   Feeds the first bits bits of piece to the hash in form, in place.  They
+   follow directly on the bits fed before, also where those are no whole number
+   of bytes.  bits may be 0.  *blocks becomes the number of blocks compressed.
+
+   Refusals, in order:
+     those of a form
+     SIMD_REFUSED_COUNT   bits is above 8 * piece_len
+     SIMD_REFUSED_SPARE   a bit after the last one is set in its byte
+     SIMD_REFUSED_TOTAL   the hash would have more than SIMD_BITS_MAX bits */
+uint8_t simd_feed(uint8_t *form, size_t form_len,
+                  const uint8_t *piece, size_t piece_len, uint64_t bits,
+                  uint64_t *blocks);
+
+/* simd_take - take the digest of what was fed
+
+   Writes the digest to the first SIMD_DIGEST(width) bytes of out; the width is
+   the form's.  The hash stays open: form is not changed and may be fed on.
+   *blocks becomes the number of blocks compressed: 2 where bits were left over
+   full blocks, else 1.
+
+   Refusals, in order:
+     those of a form
+     SIMD_REFUSED_OUTPUT  out_len is below SIMD_DIGEST(width) */
+uint8_t simd_take(const uint8_t *form, size_t form_len,
+                  uint8_t *out, size_t out_len, uint64_t *blocks);
+
+/* ONE CALL FOR A WHOLE MESSAGE */
+
+/* simd_hash - the digest of a message
+
+   Writes the digest of the first bits bits of message to the first
+   SIMD_DIGEST(width) bytes of out.  The same as simd_open, simd_feed and
+   simd_take.
+
+   Refusals, in order:
+     SIMD_REFUSED_WIDTH
+     SIMD_REFUSED_COUNT   bits is above 8 * message_len
+     SIMD_REFUSED_SPARE   a bit after the last one is set in its byte
+     SIMD_REFUSED_TOTAL   bits is above SIMD_BITS_MAX
+     SIMD_REFUSED_OUTPUT  out_len is below SIMD_DIGEST(width) */
+uint8_t simd_hash(uint16_t width, const uint8_t *message, size_t message_len,
+                  uint64_t bits, uint8_t *out, size_t out_len);
+
+/* PARTS OF THE COMPRESSION
+
+   last tells whether the block is a message block (false) or the length block
+   (true), which is expanded in another way.  States are bytes: words little
+   endian, in the order of the stored form. */
+
+/* simd_expand - the expanded message of one block
+
+   Writes SIMD_WORDS(width) words to out: 32 rows of 4 (small family) or 8
+   words, row after row, in the order in which the steps use them.  out_len
+   counts words.
+
+   Refusals, in order:
+     SIMD_REFUSED_WIDTH
+     SIMD_REFUSED_BLOCK   block_len is not SIMD_BLOCK(width)
+     SIMD_REFUSED_OUTPUT  out_len is below SIMD_WORDS(width) */
+uint8_t simd_expand(uint16_t width, bool last,
+                    const uint8_t *block, size_t block_len,
+                    uint32_t *out, size_t out_len);
+
+/* simd_steps, simd_unsteps - the 32 steps, forward and backward
+
+   simd_steps writes the state after the 32 steps with the block's expanded
+   message to the first SIMD_BLOCK(width) bytes of out.  state is the one
+   before step 0, that is, already xored with the block.
+   simd_unsteps is the inverse: from the state after the 32 steps it writes the
+   one before step 0.
+
+   Refusals, in order:
+     SIMD_REFUSED_WIDTH
+     SIMD_REFUSED_BLOCK   state_len or block_len is not SIMD_BLOCK(width)
+     SIMD_REFUSED_OUTPUT  out_len is below SIMD_BLOCK(width) */
+uint8_t simd_steps(uint16_t width, bool last,
+                   const uint8_t *state, size_t state_len,
+                   const uint8_t *block, size_t block_len,
+                   uint8_t *out, size_t out_len);
+uint8_t simd_unsteps(uint16_t width, bool last,
+                     const uint8_t *state, size_t state_len,
+                     const uint8_t *block, size_t block_len,
+                     uint8_t *out, size_t out_len);
+
+/* COMPARISON */
+
+/* simd_compare - compare two messages under one width
+
+   *verdict becomes
+     SIMD_SAME   lengths and bits are equal
+     SIMD_APART  the messages differ, and so do their final states
+     SIMD_MEET   the messages differ and their final states are equal: a
+                 collision of the whole state
+   At SIMD_MEET *block becomes the number of the block that shows it, else 0.
+   Blocks are counted back: 0 is the length block, 1 the last message block, and
+   so on.  It is the smallest number at which the state before the block or the
+   block itself differs; both messages have a block of that number, one kind of
+   compression takes both, and one state comes out.
+
+   a and b may overlap.
+
+   Refusals, in order:
+     SIMD_REFUSED_WIDTH
+     SIMD_REFUSED_COUNT   of a: a_bits is above 8 * a_len
+     SIMD_REFUSED_SPARE   of a: a bit after the last one is set in its byte
+     SIMD_REFUSED_TOTAL   of a: a_bits is above SIMD_BITS_MAX
+     the same three of b */
+uint8_t simd_compare(uint16_t width,
+                     const uint8_t *a, size_t a_len, uint64_t a_bits,
+                     const uint8_t *b, size_t b_len, uint64_t b_bits,
+                     uint64_t *verdict, uint64_t *block);
+
+/* TAPE */
+
+/* simd_tape - run a tape of commands
+
+     01  OPEN  width (2 bytes, little endian)   opens a hash
+     02  FULL  32 bytes                         feeds 256 bits
+     03  PART  count (1 byte), 32 bytes         feeds count bits, 0 to 255
+     04  TAKE                                   writes a digest, closes the hash
+     05  STOP                                   ends the tape; also with a hash open
+
+   Command bytes are hexadecimal.  Digests are written to out straight after
+   each other.  Bytes after STOP are not read.
+
+   *count becomes the number of digests written, on every answer.  On a refusal
+   *place becomes the offset in the tape of the command that is refused, and
+   out keeps the digests of earlier commands; nothing else of it is written.
+   Where nothing is refused, *place is not written.
+
+   Refusals of a command, in order:
+     SIMD_REFUSED_COMMAND its first byte is none of the five
+     SIMD_REFUSED_END     the tape ends in it; also where the tape ends before
+                          STOP, with *place the length of the tape
+     SIMD_REFUSED_ORDER   OPEN while a hash is open, or FULL, PART or TAKE while
+                          none is
+     SIMD_REFUSED_WIDTH   OPEN
+     SIMD_REFUSED_SPARE   PART: a bit of the 32 bytes is set past the count
+     SIMD_REFUSED_TOTAL   FULL, PART: the hash would have more than SIMD_BITS_MAX
+                          bits
+     SIMD_REFUSED_OUTPUT  TAKE: less of out is left than the digest needs */
+uint8_t simd_tape(const uint8_t *tape, size_t tape_len,
+                  uint8_t *out, size_t out_len,
+                  uint64_t *count, uint64_t *place);
+
+#ifdef __cplusplus
+}
+#endif
+
+#endif

@@ -1,0 +1,442 @@
+//! SIMD v1.1 digests of bit strings, over the proved library behind `include/simd.h`.
+//!
+//! The names are those of the C header: [`Hash::open`], [`Hash::feed`], [`Hash::take`], [`hash`],
+//! [`expand`], [`steps`], [`unsteps`], [`compare`], [`tape`]. A width is 224, 256, 384 or 512. A
+//! message is bytes and a count of bits; in a byte the first bit is the highest, and bits past the
+//! count in the last byte used have to be 0.
+//!
+//! ```
+//! let digest = simd::hash(256, b"", 0)?;
+//! assert_eq!(
+//!     digest.to_string(),
+//!     "8029e81e7320e13ed9001dc3d8021fec695b7a25cd43ad805260181c35fcaea8"
+//! );
+//! # Ok::<(), simd::Refusal>(())
+//! ```
+
+#![warn(missing_docs)]
+
+mod ffi;
+mod refusal;
+
+use std::fmt;
+use std::io;
+
+pub use refusal::{Refusal, TapeRefusal};
+
+/// The most bits of a message.
+pub const BITS_MAX: u64 = 4_294_967_295;
+
+const FORM_MAX: usize = 262;
+const DIGEST_MAX: usize = 64;
+const BLOCK_MAX: usize = 128;
+const WORDS_MAX: usize = 256;
+
+fn is_large(width: u16) -> bool {
+    width > 256
+}
+
+/// The bytes of a block, and of a state.
+fn block_len(width: u16) -> usize {
+    if is_large(width) {
+        128
+    } else {
+        64
+    }
+}
+
+/// The bytes of a stored form.
+fn form_len(width: u16) -> usize {
+    6 + 2 * block_len(width)
+}
+
+fn whole_bytes(bytes: &[u8]) -> u64 {
+    8 * bytes.len() as u64
+}
+
+/// A digest; its `Display` is lowercase hexadecimal.
+#[derive(Clone, Copy, PartialEq, Eq, Hash)]
+pub struct Digest {
+    bytes: [u8; DIGEST_MAX],
+    len: usize,
+}
+
+impl Digest {
+    fn new(bytes: [u8; DIGEST_MAX], width: u16) -> Digest {
+        Digest {
+            bytes,
+            len: usize::from(width / 8),
+        }
+    }
+}
+
+impl AsRef<[u8]> for Digest {
+    fn as_ref(&self) -> &[u8] {
+        &self.bytes[..self.len]
+    }
+}
+
+impl fmt::Display for Digest {
+    fn fmt(&self, f: &mut fmt::Formatter<'_>) -> fmt::Result {
+        self.as_ref()
+            .iter()
+            .try_for_each(|byte| write!(f, "{byte:02x}"))
+    }
+}
+
+impl fmt::Debug for Digest {
+    fn fmt(&self, f: &mut fmt::Formatter<'_>) -> fmt::Result {
+        write!(f, "Digest({self})")
+    }
+}
+
+/// An open hash.
+///
+/// Pieces of any number of bits are fed one after the other:
+///
+/// ```
+/// let mut hash = simd::Hash::open(256)?;
+/// hash.feed(&[0b1010_0000], 3)?;
+/// hash.feed(&[0b1111_1000], 5)?;
+/// assert_eq!(hash.take().digest, simd::hash(256, &[0b1011_1111], 8)?);
+/// # Ok::<(), simd::Refusal>(())
+/// ```
+///
+/// Stored and restored, it goes on as before:
+///
+/// ```
+/// let mut hash = simd::Hash::open(512)?;
+/// hash.feed(b"a reading", 72)?;
+/// let stored = hash.store().to_vec();
+/// let restored = simd::Hash::restore(&stored)?;
+/// assert_eq!(restored.take(), hash.take());
+/// # Ok::<(), simd::Refusal>(())
+/// ```
+///
+/// As an [`io::Write`] it takes whole bytes:
+///
+/// ```
+/// let mut hash = simd::Hash::open(384)?;
+/// std::io::copy(&mut &b"a long record"[..], &mut hash)?;
+/// assert_eq!(hash.take().digest, simd::hash(384, b"a long record", 104)?);
+/// # Ok::<(), Box<dyn std::error::Error>>(())
+/// ```
+#[derive(Clone, PartialEq, Eq)]
+pub struct Hash {
+    form: [u8; FORM_MAX],
+    len: usize,
+}
+
+/// What [`Hash::take`] answers.
+#[derive(Clone, Copy, Debug, PartialEq, Eq)]
+pub struct Taken {
+    /// The digest of all bits fed.
+    pub digest: Digest,
+    /// The blocks compressed for it, 1 or 2.
+    pub blocks: u64,
+}
+
+fn take(form: &[u8]) -> Result<Taken, Refusal> {
+    let (mut bytes, mut blocks) = ([0; DIGEST_MAX], 0);
+    // SAFETY: each pointer and length are those of one slice, and nothing overlaps.
+    let number = unsafe {
+        ffi::simd_take(
+            form.as_ptr(),
+            form.len(),
+            bytes.as_mut_ptr(),
+            bytes.len(),
+            &mut blocks,
+        )
+    };
+    Refusal::check(number)?;
+    let width = u16::from_le_bytes([form[0], form[1]]);
+    Ok(Taken {
+        digest: Digest::new(bytes, width),
+        blocks,
+    })
+}
+
+impl Hash {
+    /// Opens a hash. Refused: [`Refusal::Width`].
+    pub fn open(width: u16) -> Result<Hash, Refusal> {
+        let mut form = [0; FORM_MAX];
+        // SAFETY: the pointer and length are those of one array.
+        let number = unsafe { ffi::simd_open(width, form.as_mut_ptr(), form.len()) };
+        Refusal::check(number)?;
+        Ok(Hash {
+            form,
+            len: form_len(width),
+        })
+    }
+
+    /// Feeds the first `bits` bits of a piece; answers how many blocks were compressed.
+    ///
+    /// Refused: [`Refusal::Count`], [`Refusal::Spare`], [`Refusal::Total`]. The hash is then
+    /// unchanged.
+    pub fn feed(&mut self, piece: &[u8], bits: u64) -> Result<u64, Refusal> {
+        let mut blocks = 0;
+        // SAFETY: each pointer and length are those of one slice, and nothing overlaps the form.
+        let number = unsafe {
+            ffi::simd_feed(
+                self.form.as_mut_ptr(),
+                self.len,
+                piece.as_ptr(),
+                piece.len(),
+                bits,
+                &mut blocks,
+            )
+        };
+        Refusal::check(number)?;
+        Ok(blocks)
+    }
+
+    /// The digest of all bits fed. The hash stays open.
+    pub fn take(&self) -> Taken {
+        take(self.store()).expect("a hash holds a legal form")
+    }
+
+    /// The stored form, 134 or 262 bytes.
+    pub fn store(&self) -> &[u8] {
+        &self.form[..self.len]
+    }
+
+    /// The hash of a stored form. Refused: [`Refusal::Form`], [`Refusal::Width`],
+    /// [`Refusal::Tail`].
+    pub fn restore(form: &[u8]) -> Result<Hash, Refusal> {
+        // A form that has a digest is legal.
+        take(form)?;
+        let mut hash = Hash {
+            form: [0; FORM_MAX],
+            len: form.len(),
+        };
+        hash.form[..form.len()].copy_from_slice(form);
+        Ok(hash)
+    }
+
+    /// The width.
+    pub fn width(&self) -> u16 {
+        u16::from_le_bytes([self.form[0], self.form[1]])
+    }
+
+    /// The count of bits fed.
+    pub fn bits(&self) -> u32 {
+        u32::from_le_bytes([self.form[2], self.form[3], self.form[4], self.form[5]])
+    }
+}
+
+impl fmt::Debug for Hash {
+    fn fmt(&self, f: &mut fmt::Formatter<'_>) -> fmt::Result {
+        f.debug_struct("Hash")
+            .field("width", &self.width())
+            .field("bits", &self.bits())
+            .finish_non_exhaustive()
+    }
+}
+
+/// Feeds whole bytes. A write that would pass [`BITS_MAX`] is refused as a whole, and the error
+/// holds [`Refusal::Total`].
+impl io::Write for Hash {
+    fn write(&mut self, bytes: &[u8]) -> io::Result<usize> {
+        self.feed(bytes, whole_bytes(bytes))?;
+        Ok(bytes.len())
+    }
+
+    fn flush(&mut self) -> io::Result<()> {
+        Ok(())
+    }
+}
+
+/// The digest of the first `bits` bits of a message.
+///
+/// Refused: [`Refusal::Width`], [`Refusal::Count`], [`Refusal::Spare`], [`Refusal::Total`].
+///
+/// ```
+/// use simd::{hash, Refusal};
+///
+/// assert_eq!(hash(512, &[0xff, 0x80], 9)?.as_ref().len(), 64);
+/// assert_eq!(hash(512, &[0xff, 0xc0], 9), Err(Refusal::Spare));
+/// assert_eq!(hash(512, &[0xff], 9), Err(Refusal::Count));
+/// assert_eq!(hash(160, &[], 0), Err(Refusal::Width));
+/// # Ok::<(), Refusal>(())
+/// ```
+pub fn hash(width: u16, message: &[u8], bits: u64) -> Result<Digest, Refusal> {
+    let mut bytes = [0; DIGEST_MAX];
+    // SAFETY: each pointer and length are those of one slice, and nothing overlaps.
+    let number = unsafe {
+        ffi::simd_hash(
+            width,
+            message.as_ptr(),
+            message.len(),
+            bits,
+            bytes.as_mut_ptr(),
+            bytes.len(),
+        )
+    };
+    Refusal::check(number)?;
+    Ok(Digest::new(bytes, width))
+}
+
+/// The expanded message of one block, 32 rows of 4 or 8 words, row after row; `last` tells the
+/// length block.
+///
+/// Refused: [`Refusal::Width`], [`Refusal::Block`].
+///
+/// ```
+/// let words = simd::expand(256, false, &[0; 64])?;
+/// assert_eq!(words.len(), 128);
+/// # Ok::<(), simd::Refusal>(())
+/// ```
+pub fn expand(width: u16, last: bool, block: &[u8]) -> Result<Vec<u32>, Refusal> {
+    let mut words = vec![0; WORDS_MAX];
+    // SAFETY: each pointer and length are those of one slice, and nothing overlaps.
+    let number = unsafe {
+        ffi::simd_expand(
+            width,
+            last,
+            block.as_ptr(),
+            block.len(),
+            words.as_mut_ptr(),
+            words.len(),
+        )
+    };
+    Refusal::check(number)?;
+    words.truncate(2 * block_len(width));
+    Ok(words)
+}
+
+/// The state after the 32 steps, from the one already xored with the block.
+///
+/// Refused: [`Refusal::Width`], [`Refusal::Block`].
+///
+/// ```
+/// let (state, block) = ([7; 64], [9; 64]);
+/// let end = simd::steps(224, false, &state, &block)?;
+/// assert_eq!(simd::unsteps(224, false, &end, &block)?, state);
+/// # Ok::<(), simd::Refusal>(())
+/// ```
+pub fn steps(width: u16, last: bool, state: &[u8], block: &[u8]) -> Result<Vec<u8>, Refusal> {
+    stepping(ffi::simd_steps, width, last, state, block)
+}
+
+/// The inverse of [`steps`]: the state before the 32 steps, from the one after them.
+///
+/// Refused: [`Refusal::Width`], [`Refusal::Block`].
+pub fn unsteps(width: u16, last: bool, state: &[u8], block: &[u8]) -> Result<Vec<u8>, Refusal> {
+    stepping(ffi::simd_unsteps, width, last, state, block)
+}
+
+fn stepping(
+    call: ffi::Stepping,
+    width: u16,
+    last: bool,
+    state: &[u8],
+    block: &[u8],
+) -> Result<Vec<u8>, Refusal> {
+    let mut out = vec![0; BLOCK_MAX];
+    // SAFETY: each pointer and length are those of one slice, and nothing overlaps the output.
+    let number = unsafe {
+        call(
+            width,
+            last,
+            state.as_ptr(),
+            state.len(),
+            block.as_ptr(),
+            block.len(),
+            out.as_mut_ptr(),
+            out.len(),
+        )
+    };
+    Refusal::check(number)?;
+    out.truncate(block_len(width));
+    Ok(out)
+}
+
+/// What [`compare`] answers.
+#[derive(Clone, Copy, Debug, PartialEq, Eq)]
+pub enum Verdict {
+    /// Lengths and bits are equal.
+    Same,
+    /// The messages differ, and so do their final states.
+    Apart,
+    /// The messages differ and their final states are equal. The number is that of the block that
+    /// shows it, counted back from the length block, which is 0: the smallest at which the state
+    /// before the block or the block itself differs.
+    Meet(u64),
+}
+
+/// Compares two messages, each bytes and a count of bits, under one width.
+///
+/// Refused: [`Refusal::Width`]; then, for the first message and after it for the second,
+/// [`Refusal::Count`], [`Refusal::Spare`], [`Refusal::Total`].
+///
+/// ```
+/// use simd::{compare, Verdict};
+///
+/// assert_eq!(compare(256, b"record", 48, b"record!", 48)?, Verdict::Same);
+/// assert_eq!(compare(256, b"record", 48, b"record!", 56)?, Verdict::Apart);
+/// # Ok::<(), simd::Refusal>(())
+/// ```
+pub fn compare(
+    width: u16,
+    a: &[u8],
+    a_bits: u64,
+    b: &[u8],
+    b_bits: u64,
+) -> Result<Verdict, Refusal> {
+    let (mut verdict, mut block) = (0, 0);
+    // SAFETY: each pointer and length are those of one slice; a and b are only read.
+    let number = unsafe {
+        ffi::simd_compare(
+            width,
+            a.as_ptr(),
+            a.len(),
+            a_bits,
+            b.as_ptr(),
+            b.len(),
+            b_bits,
+            &mut verdict,
+            &mut block,
+        )
+    };
+    Refusal::check(number)?;
+    Ok(match verdict {
+        0 => Verdict::Same,
+        1 => Verdict::Apart,
+        _ => Verdict::Meet(block),
+    })
+}
+
+/// Runs a tape of commands; digests are written to `out` straight after each other. Answers how
+/// many there are. A refusal tells the place and how many digests were written before it.
+///
+/// ```
+/// let mut out = [0; 32];
+/// assert_eq!(simd::tape(&[0x01, 0x00, 0x01, 0x04, 0x05], &mut out), Ok(1));
+/// assert_eq!(out, simd::hash(256, b"", 0)?.as_ref());
+///
+/// let refused = simd::tape(&[0x01, 0x00, 0x01, 0x04, 0x04], &mut out).unwrap_err();
+/// assert_eq!((refused.refusal, refused.place, refused.count), (simd::Refusal::Order, 4, 1));
+/// # Ok::<(), simd::Refusal>(())
+/// ```
+pub fn tape(tape: &[u8], out: &mut [u8]) -> Result<u64, TapeRefusal> {
+    let (mut count, mut place) = (0, 0);
+    // SAFETY: each pointer and length are those of one slice, and nothing overlaps the output.
+    let number = unsafe {
+        ffi::simd_tape(
+            tape.as_ptr(),
+            tape.len(),
+            out.as_mut_ptr(),
+            out.len(),
+            &mut count,
+            &mut place,
+        )
+    };
+    match Refusal::check(number) {
+        Ok(()) => Ok(count),
+        Err(refusal) => Err(TapeRefusal {
+            refusal,
+            place,
+            count,
+        }),
+    }
+}

@@ -1,0 +1,116 @@
+use std::error::Error;
+use std::fmt;
+use std::io;
+
+/// Why a call was refused.
+#[derive(Clone, Copy, Debug, PartialEq, Eq, Hash)]
+#[repr(u8)]
+pub enum Refusal {
+    /// The width is none of 224, 256, 384 and 512.
+    Width = 1,
+    /// More bits are asked for than the bytes have.
+    Count = 2,
+    /// A bit is set past the count: in the last byte used, or in the 32 bytes of a PART.
+    Spare = 3,
+    /// The message would have more than [`BITS_MAX`](crate::BITS_MAX) bits.
+    Total = 4,
+    /// The output is too short.
+    Output = 6,
+    /// A block or state has another size than the width's.
+    Block = 7,
+    /// A stored form has another size than its width's.
+    Form = 8,
+    /// A bit of a stored form is set past its tail.
+    Tail = 9,
+    /// The tape has a byte that is no command.
+    Command = 10,
+    /// The tape ends in a command, or before STOP.
+    End = 11,
+    /// The tape has OPEN while a hash is open, or FULL, PART or TAKE while none is.
+    Order = 12,
+}
+
+const ALL: [Refusal; 11] = [
+    Refusal::Width,
+    Refusal::Count,
+    Refusal::Spare,
+    Refusal::Total,
+    Refusal::Output,
+    Refusal::Block,
+    Refusal::Form,
+    Refusal::Tail,
+    Refusal::Command,
+    Refusal::End,
+    Refusal::Order,
+];
+
+impl Refusal {
+    /// The number that the library answers.
+    pub fn number(self) -> u8 {
+        self as u8
+    }
+
+    /// The answer of a call: a number, 0 where nothing is refused.
+    pub(crate) fn check(number: u8) -> Result<(), Refusal> {
+        if number == 0 {
+            return Ok(());
+        }
+        let known = ALL.into_iter().find(|refusal| refusal.number() == number);
+        Err(known.unwrap_or_else(|| panic!("the library answered {number}")))
+    }
+}
+
+impl fmt::Display for Refusal {
+    fn fmt(&self, f: &mut fmt::Formatter<'_>) -> fmt::Result {
+        f.write_str(match self {
+            Refusal::Width => "the width is none of 224, 256, 384 and 512",
+            Refusal::Count => "more bits than the bytes have",
+            Refusal::Spare => "a bit is set past the count",
+            Refusal::Total => "more than 4294967295 bits in all",
+            Refusal::Output => "the output is too short",
+            Refusal::Block => "the block or state has not the width's size",
+            Refusal::Form => "the stored form has not its width's size",
+            Refusal::Tail => "a bit of the stored form is set past its tail",
+            Refusal::Command => "no such command on the tape",
+            Refusal::End => "the tape ends in a command or before STOP",
+            Refusal::Order => "the tape opens an open hash, or uses one that is not open",
+        })
+    }
+}
+
+impl Error for Refusal {}
+
+impl From<Refusal> for io::Error {
+    fn from(refusal: Refusal) -> io::Error {
+        io::Error::new(io::ErrorKind::InvalidInput, refusal)
+    }
+}
+
+/// Why and where a tape was refused.
+#[derive(Clone, Copy, Debug, PartialEq, Eq)]
+pub struct TapeRefusal {
+    /// Why.
+    pub refusal: Refusal,
+    /// The offset of the command byte, or the tape's length where it ends before STOP.
+    pub place: u64,
+    /// How many digests were written before.
+    pub count: u64,
+}
+
+impl fmt::Display for TapeRefusal {
+    fn fmt(&self, f: &mut fmt::Formatter<'_>) -> fmt::Result {
+        write!(
+            f,
+            "refused {} at {}: {}",
+            self.refusal.number(),
+            self.place,
+            self.refusal
+        )
+    }
+}
+
+impl Error for TapeRefusal {
+    fn source(&self) -> Option<&(dyn Error + 'static)> {
+        Some(&self.refusal)
+    }
+}

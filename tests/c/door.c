@@ -1,0 +1,164 @@
+/* Use of include/simd.h from C: hash, feed in pieces, store, restore, compare,
+   run a tape.  Prints how many answers it checked; the exit status is 0 where
+   all were right.  The digests are those of appendix A. */
+
+#include <stdio.h>
+#include <string.h>
+
+#include "simd.h"
+
+static unsigned compared, differ;
+
+static void check(int right, const char *what)
+{
+    compared++;
+    if (!right) {
+        differ++;
+        printf("  %s\n", what);
+    }
+}
+
+static int is_hex(const uint8_t *data, size_t len, const char *hex)
+{
+    char text[2 * SIMD_DIGEST_MAX + 1];
+    size_t k;
+    for (k = 0; k < len; k++)
+        sprintf(text + 2 * k, "%02x", data[k]);
+    return strcmp(text, hex) == 0;
+}
+
+/* The message 00 01 .. of one block, and 700 or 1,079 bits of 1. */
+struct vector {
+    uint16_t width;
+    const char *block_digest, *ones_digest;
+    uint64_t ones;
+};
+
+static const struct vector VECTORS[] = {
+    {256, "5bebdb816cd3e6c8c2b5a42867a6f41570c4b917f1d3b15aabc17f24679e6acd",
+          "e80b4eeb8a370e6ca918e7810400441f6dd0da1eb4559cade791c314f82d524a", 700},
+    {512, "8851ad0a57426b4af57af3294706c0448fa6accf24683fc239871be58ca913fb"
+          "ee53e35c1dedd88016ebd131f2eb0761e97a3048de6e696787fd5f54981d6f2c",
+          "c060fa9aae2414715a3a27c5df22dbd41469e3d09056b093861f0f6b9bdc311a"
+          "24ac743811e88358dc69094ad444036bbbf7708ed8bdeaf1e8ed871dfb79c218", 1079},
+};
+
+static void check_hash(const struct vector *v)
+{
+    uint8_t message[SIMD_BLOCK_LARGE], out[SIMD_DIGEST_MAX];
+    uint64_t bits = 8 * (uint64_t)SIMD_BLOCK(v->width);
+    size_t k;
+    for (k = 0; k < sizeof message; k++)
+        message[k] = (uint8_t)k;
+    check(simd_hash(v->width, message, sizeof message, bits, out, sizeof out) == SIMD_ACCEPTED
+              && is_hex(out, SIMD_DIGEST(v->width), v->block_digest),
+          "hash of one block");
+    check(simd_hash(v->width + 1, message, sizeof message, bits, out, sizeof out)
+              == SIMD_REFUSED_WIDTH,
+          "hash at an unknown width");
+}
+
+/* Pieces of 13 bits, the hash kept elsewhere between them. */
+static void check_pieces(const struct vector *v)
+{
+    const uint8_t ones[2] = {0xff, 0xf8};
+    uint8_t form[SIMD_FORM_LARGE], stored[SIMD_FORM_LARGE], out[SIMD_DIGEST_MAX];
+    size_t size = SIMD_FORM(v->width);
+    uint64_t blocks, total = 0, left = v->ones;
+    check(simd_open(v->width, form, sizeof form) == SIMD_ACCEPTED, "open");
+    for (; left >= 13; left -= 13) {
+        check(simd_feed(form, size, ones, sizeof ones, 13, &blocks) == SIMD_ACCEPTED, "feed");
+        total += blocks;
+        memcpy(stored, form, size);
+        memset(form, 0, sizeof form);
+        memcpy(form, stored, size);
+    }
+    for (; left > 0; left--) {
+        const uint8_t one = 0x80;
+        check(simd_feed(form, size, &one, 1, 1, &blocks) == SIMD_ACCEPTED, "feed a bit");
+        total += blocks;
+    }
+    check(simd_take(form, size, out, sizeof out, &blocks) == SIMD_ACCEPTED
+              && is_hex(out, SIMD_DIGEST(v->width), v->ones_digest),
+          "take");
+    check(total + blocks == 3, "compressions");
+    memcpy(stored, form, size);
+    check(simd_feed(form, size, ones, sizeof ones, 12, &blocks) == SIMD_REFUSED_SPARE
+              && simd_feed(form, size, ones, sizeof ones, 17, &blocks) == SIMD_REFUSED_COUNT
+              && simd_feed(form, size - 1, ones, sizeof ones, 13, &blocks) == SIMD_REFUSED_FORM
+              && memcmp(form, stored, size) == 0,
+          "refusals of feed");
+}
+
+static void check_steps(const struct vector *v)
+{
+    uint8_t state[SIMD_BLOCK_LARGE], block[SIMD_BLOCK_LARGE];
+    uint8_t end[SIMD_BLOCK_LARGE], back[SIMD_BLOCK_LARGE];
+    uint32_t words[SIMD_WORDS_LARGE];
+    size_t size = SIMD_BLOCK(v->width), k;
+    for (k = 0; k < size; k++) {
+        state[k] = (uint8_t)(3 * k);
+        block[k] = (uint8_t)(5 * k + 1);
+    }
+    check(simd_expand(v->width, true, block, size, words, SIMD_WORDS_LARGE) == SIMD_ACCEPTED,
+          "expand");
+    check(simd_steps(v->width, true, state, size, block, size, end, size) == SIMD_ACCEPTED
+              && simd_unsteps(v->width, true, end, size, block, size, back, size) == SIMD_ACCEPTED
+              && memcmp(state, back, size) == 0,
+          "steps and back");
+}
+
+static void check_compare(const struct vector *v)
+{
+    uint8_t a[200], b[200];
+    uint64_t verdict, block;
+    memset(a, 0x5a, sizeof a);
+    memcpy(b, a, sizeof b);
+    check(simd_compare(v->width, a, sizeof a, 1600, b, sizeof b, 1600, &verdict, &block)
+                  == SIMD_ACCEPTED
+              && verdict == SIMD_SAME,
+          "compare equal messages");
+    b[199] ^= 1;
+    check(simd_compare(v->width, a, sizeof a, 1600, b, sizeof b, 1600, &verdict, &block)
+                  == SIMD_ACCEPTED
+              && verdict == SIMD_APART,
+          "compare messages that differ in a bit");
+    check(simd_compare(v->width, a, sizeof a, 1600, b, sizeof b, 1601, &verdict, &block)
+              == SIMD_REFUSED_COUNT,
+          "compare with too large a count");
+}
+
+static void check_tape(const struct vector *v)
+{
+    uint8_t tape[3 + 33 + 2] = {1}, out[SIMD_DIGEST_MAX], one_call[SIMD_DIGEST_MAX];
+    uint64_t count, place = 99;
+    tape[1] = (uint8_t)v->width;
+    tape[2] = (uint8_t)(v->width >> 8);
+    tape[3] = 2;
+    memset(tape + 4, 0xc3, 32);
+    tape[36] = 4;
+    tape[37] = 5;
+    check(simd_tape(tape, sizeof tape, out, sizeof out, &count, &place) == SIMD_ACCEPTED
+              && count == 1 && place == 99,
+          "tape");
+    check(simd_hash(v->width, tape + 4, 32, 256, one_call, sizeof one_call) == SIMD_ACCEPTED
+              && memcmp(out, one_call, SIMD_DIGEST(v->width)) == 0,
+          "the tape's digest");
+    check(simd_tape(tape, sizeof tape - 1, out, sizeof out, &count, &place) == SIMD_REFUSED_END
+              && count == 1 && place == 37,
+          "tape without STOP");
+}
+
+int main(void)
+{
+    size_t k;
+    for (k = 0; k < sizeof VECTORS / sizeof *VECTORS; k++) {
+        check_hash(&VECTORS[k]);
+        check_pieces(&VECTORS[k]);
+        check_steps(&VECTORS[k]);
+        check_compare(&VECTORS[k]);
+        check_tape(&VECTORS[k]);
+    }
+    printf("c: %u compared, %u differ\n", compared, differ);
+    return differ != 0;
+}

@@ -1,0 +1,179 @@
+"""The calls of include/simd.h over the reference, written from the scope.
+
+Each function takes the same arguments as the one of that name in
+tests/product.py and returns the same: the refusal, then the contents after
+the call of everything that was lent.
+"""
+
+import simd_ref as ref
+import tape_ref
+
+BITS_MAX = 4294967295
+SAME, APART, MEET = 0, 1, 2
+
+
+# Refusals: a number, or 0
+
+def width_refusal(width):
+    return 0 if width in ref.WIDTHS else 1
+
+
+def piece_refusal(data, bits, before=0):
+    if bits > 8 * len(data):
+        return 2
+    if bits % 8 and data[bits // 8] % 2 ** (8 - bits % 8):
+        return 3
+    return 4 if before + bits > BITS_MAX else 0
+
+
+def form_refusal(form):
+    if len(form) < 2:
+        return 8
+    width = int.from_bytes(form[:2], "little")
+    if width not in ref.WIDTHS:
+        return 1
+    if len(form) != 6 + 2 * ref.block_bytes(width):
+        return 8
+    _, length, _, block = parts(form)
+    past = ref.block_bits(width) - length % ref.block_bits(width)
+    return 9 if int.from_bytes(block, "big") % 2 ** past else 0
+
+
+# Stored form
+
+def parts(form):
+    """Width, bit length, state and last block of a form of the right size."""
+    width, length = int.from_bytes(form[:2], "little"), int.from_bytes(form[2:6], "little")
+    size = ref.block_bytes(width)
+    return width, length, ref.state_from_bytes(width, form[6:6 + size]), form[6 + size:]
+
+
+def make_form(width, length, state, block):
+    return (width.to_bytes(2, "little") + length.to_bytes(4, "little")
+            + ref.state_to_bytes(state) + block)
+
+
+def over(new, old):
+    """A lent buffer after its first elements were written."""
+    return new + old[len(new):]
+
+
+# Calls
+
+def open(width, form):
+    size = None if width_refusal(width) else 6 + 2 * ref.block_bytes(width)
+    refusal = width_refusal(width) or (6 if len(form) < size else 0)
+    if refusal:
+        return refusal, form
+    empty = make_form(width, 0, ref.start_state(width), bytes(ref.block_bytes(width)))
+    return 0, over(empty, form)
+
+
+def feed(form, piece, bits, blocks=0):
+    refusal = form_refusal(form)
+    if not refusal:
+        width, length, state, block = parts(form)
+        refusal = piece_refusal(piece, bits, length)
+    if refusal:
+        return refusal, form, blocks
+    # The bits of the tail and those of the piece, as one number.
+    size = ref.block_bits(width)
+    tail = length % size
+    joined = int.from_bytes(block, "big") >> (size - tail)
+    joined = joined << bits | int.from_bytes(piece, "big") >> (8 * len(piece) - bits)
+    full, rest = divmod(tail + bits, size)
+    data = (joined << (size - rest)).to_bytes((full + 1) * size // 8, "big")
+    for k in range(full):
+        state = ref.compress(width, False, state, data[k * size // 8:(k + 1) * size // 8])
+    return 0, make_form(width, length + bits, state, data[full * size // 8:]), full
+
+
+def take(form, out, blocks=0):
+    refusal = form_refusal(form)
+    if not refusal:
+        width, length, state, block = parts(form)
+        refusal = 6 if len(out) < width // 8 else 0
+    if refusal:
+        return refusal, out, blocks
+    tail = length % ref.block_bits(width) > 0
+    if tail:
+        state = ref.compress(width, False, state, block)
+    state = ref.compress(width, True, state, ref.length_block(width, length))
+    return 0, over(ref.state_to_bytes(state)[:width // 8], out), 2 if tail else 1
+
+
+def hash(width, message, bits, out):
+    refusal = (width_refusal(width) or piece_refusal(message, bits)
+               or (6 if len(out) < width // 8 else 0))
+    if refusal:
+        return refusal, out
+    return 0, over(ref.digest(width, message, bits), out)
+
+
+def expand(width, last, block, out):
+    refusal = width_refusal(width)
+    if not refusal and len(block) != ref.block_bytes(width):
+        refusal = 7
+    if not refusal and len(out) < 32 * ref.rows(width):
+        refusal = 6
+    if refusal:
+        return refusal, out
+    return 0, over(sum(ref.expand(width, last, block), []), out)
+
+
+def stepping(direction, width, last, state, block, out):
+    refusal = width_refusal(width)
+    if not refusal and not len(state) == len(block) == ref.block_bytes(width):
+        refusal = 7
+    if not refusal and len(out) < ref.block_bytes(width):
+        refusal = 6
+    if refusal:
+        return refusal, out
+    end = direction(width, last, ref.state_from_bytes(width, state), block)
+    return 0, over(ref.state_to_bytes(end), out)
+
+
+def steps(width, last, state, block, out):
+    return stepping(ref.steps, width, last, state, block, out)
+
+
+def unsteps(width, last, state, block, out):
+    return stepping(ref.unsteps, width, last, state, block, out)
+
+
+def pairs(states, blocks):
+    """The pairs of state and block by their number, counted back."""
+    return list(zip(states, blocks))[::-1]
+
+
+def meeting(pairs_a, pairs_b):
+    """The smallest number at which the pairs differ."""
+    return next(k for k, (p, q) in enumerate(zip(pairs_a, pairs_b)) if p != q)
+
+
+def verdict_of(same, final_a, final_b, pairs_a, pairs_b):
+    """(verdict, number of the block)."""
+    if same:
+        return SAME, 0
+    if final_a != final_b:
+        return APART, 0
+    return MEET, meeting(pairs_a, pairs_b)
+
+
+def compare(width, a, a_bits, b, b_bits, verdict=0, block=0):
+    refusal = width_refusal(width) or piece_refusal(a, a_bits) or piece_refusal(b, b_bits)
+    if refusal:
+        return refusal, verdict, block
+    same = tape_ref.bit_string(a, a_bits) == tape_ref.bit_string(b, b_bits)
+    sides = []
+    for data, bits in ((a, a_bits), (b, b_bits)):
+        states = ref.states_between(width, data, bits)
+        sides.append((states[-1], pairs(states, [x for _, x in ref.all_blocks(width, data, bits)])))
+    (final_a, pairs_a), (final_b, pairs_b) = sides
+    return (0, *verdict_of(same, final_a, final_b, pairs_a, pairs_b))
+
+
+def tape(data, out, count=0, place=0):
+    digests, refusal, refused_at = tape_ref.run(data, len(out))
+    written = b"".join(digest for _, digest in digests)
+    return refusal, over(written, out), len(digests), refused_at if refusal else place

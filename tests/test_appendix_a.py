@@ -1,0 +1,121 @@
+#!/usr/bin/env python3
+"""The product against the values listed in appendix A (tests/appendix_a).
+
+The door gives the state before each block (I), the expanded rows (W), the
+state after the 32 steps (S 31), the same run back (X), the state after each
+message block (O) and the digests.  The test-only library `trace` gives the
+transform (y), the matrix (Z) and the state after each of the 36 steps (S, O).
+"""
+
+import sys
+
+from tally import Tally
+import check
+import product
+import simd_ref as ref
+
+
+def accepted(result):
+    """What a call returned beside its refusal, which is to be 0."""
+    assert result[0] == 0, "refusal %d" % result[0]
+    return result[1]
+
+
+def word_columns(width, words):
+    r = ref.rows(width)
+    return [words[r * c:r * c + r] for c in range(4)]
+
+
+def byte_columns(width, data):
+    return word_columns(width, product.values_of(data))
+
+
+def by_rows(name, width, words):
+    r = ref.rows(width)
+    return {"%s %d" % (name, i): words[r * i:r * i + r] for i in range(32)}
+
+
+class Door:
+    """The calls of include/simd.h; a state is its bytes."""
+
+    @staticmethod
+    def digest(width, data, bits):
+        return accepted(product.hash(width, data, bits, bytes(width // 8)))
+
+    @staticmethod
+    def empty(width):
+        return accepted(product.open(width, bytes(6 + 2 * ref.block_bytes(width))))
+
+    @classmethod
+    def start(cls, width):
+        return cls.empty(width)[6:6 + ref.block_bytes(width)]
+
+    @classmethod
+    def compression(cls, width, last, state, block):
+        size, r = ref.block_bytes(width), ref.rows(width)
+        values = check.columns("I", byte_columns(width, state))
+        values.update(by_rows("W", width, accepted(
+            product.expand(width, last, block, [0] * (32 * r)))))
+        xored = bytes(s ^ b for s, b in zip(state, block))
+        end = accepted(product.steps(width, last, xored, block, bytes(size)))
+        values.update(check.columns("S 31", byte_columns(width, end)))
+        start = accepted(product.unsteps(width, last, end, block, bytes(size)))
+        values.update(check.columns("X", byte_columns(width, start)))
+        if last:
+            return values, None
+        # Fed to a hash with this state and no tail, the block is compressed.
+        empty = cls.empty(width)
+        form = accepted(product.feed(empty[:6] + state + empty[6 + size:], block, 8 * size))
+        values.update(check.columns("O", byte_columns(width, form[6:6 + size])))
+        return values, form[6:6 + size]
+
+
+class Trace:
+    """The calls of the test-only library; a state is its bytes."""
+
+    start = Door.start
+
+    @classmethod
+    def digest(cls, width, data, bits):
+        state = cls.start(width)
+        for last, block in ref.all_blocks(width, data, bits):
+            _, state = cls.compression(width, last, state, block)
+        return state[:width // 8]
+
+    @staticmethod
+    def compression(width, last, state, block):
+        r = ref.rows(width)
+        y = accepted(product.trace_transform(width, last, block, [0] * (32 * r)))
+        values = {"y %d" % i: y[i:i + 8] for i in range(0, len(y), 8)}
+        values.update(by_rows("Z", width, accepted(
+            product.trace_matrix(width, last, block, [0] * (32 * r)))))
+        words = accepted(product.trace_steps(width, last, state, block, [0] * (36 * 4 * r)))
+        for i in range(36):
+            after = words[4 * r * i:4 * r * (i + 1)]
+            values.update(check.columns("S %d" % i, word_columns(width, after)))
+        values.update(check.columns("O", word_columns(width, after)))
+        return values, b"".join(word.to_bytes(4, "little") for word in after)
+
+
+def main():
+    status = 0
+    for name, subject in (("door", Door), ("trace", Trace)):
+        tally = Tally("appendix_a, " + name)
+        if subject is Trace and product.trace is None:
+            print(tally.name + ": the library is not built; y, Z and steps 0 to 35 not compared")
+            continue
+        kinds = {}
+        for width in ref.WIDTHS:
+            counts, failures = check.check(width, subject)
+            for kind, n in counts.items():
+                kinds[kind] = kinds.get(kind, 0) + n
+            tally.compared += sum(counts.values())
+            tally.differ += len(failures)
+            for line in failures[:10]:
+                print("  simd%d.txt %s" % (width, line))
+        status |= tally.finish(", ".join("%s %d" % item for item in kinds.items()))
+    return status
+
+
+if __name__ == "__main__":
+    sys.exit(main())

@@ -1,0 +1,86 @@
+#!/usr/bin/env python3
+"""The refusals of tests/edges/cases.txt.
+
+Each case is held to the refusal that its line states and to the reference's
+answer; a refused call leaves everything it was lent as it was.
+"""
+
+import os
+import sys
+
+from tally import HERE, Tally, read_bytes
+import door_ref
+import product
+
+LENT = bytes((91 * k + 7) % 256 for k in range(512))
+STATE = bytes((59 * k + 3) % 256 for k in range(128))
+NUMBER = 0x0123456789ABCDEF
+
+
+def read_form(text):
+    width, length, tail, size = text.split("/")
+    width, size = int(width), int(size)
+    block = 128 if width > 256 else 64
+    form = (width.to_bytes(2, "little") + int(length).to_bytes(4, "little")
+            + STATE[:block] + read_bytes(tail).ljust(block, b"\0"))
+    return form[:size].ljust(size, b"\0")
+
+
+def arguments(call, field):
+    """The arguments, in the order of tests/product.py, from the fields of a line."""
+    lent = {key: LENT[:int(field[key])] for key in ("out", "state", "block") if key in field}
+    width = int(field["width"]) if "width" in field else None
+    if call == "open":
+        return width, LENT[:int(field["form"])]
+    if call == "feed":
+        return (read_form(field["form"]), read_bytes(field["piece"]), int(field["bits"]), NUMBER)
+    if call == "take":
+        return read_form(field["form"]), lent["out"], NUMBER
+    if call == "hash":
+        return width, read_bytes(field["message"]), int(field["bits"]), lent["out"]
+    if call == "expand":
+        return width, False, lent["block"], [NUMBER % 2 ** 32 + k for k in range(int(field["out"]))]
+    if call in ("steps", "unsteps"):
+        return width, False, lent["state"], lent["block"], lent["out"]
+    if call == "compare":
+        return (width, read_bytes(field["a"]), int(field["a_bits"]),
+                read_bytes(field["b"]), int(field["b_bits"]), NUMBER, NUMBER)
+    raise ValueError(call)
+
+
+# The places, among the arguments, of what each call is lent to write to.
+WRITTEN = {"open": (1,), "feed": (0, 3), "take": (1, 2), "hash": (3,), "expand": (3,),
+           "steps": (4,), "unsteps": (4,), "compare": (5, 6)}
+
+
+def cases(path):
+    """(line number, call, arguments, refusal) of each case."""
+    with open(path, encoding="ascii") as f:
+        for n, line in enumerate(f, 1):
+            if line.startswith("#") or not line.strip():
+                continue
+            text, refusal = line.rsplit(":", 1)
+            call, *fields = text.split()
+            field = dict(item.split("=", 1) for item in fields)
+            for width in field.get("width", "-").split(","):
+                if "width" in field:
+                    field["width"] = width
+                yield n, call, arguments(call, field), int(refusal)
+
+
+def main():
+    tally, count, refusals = Tally("edges"), 0, set()
+    for n, call, args, refusal in cases(os.path.join(HERE, "edges", "cases.txt")):
+        what = "line %d, %s" % (n, call)
+        result = getattr(product, call)(*args)
+        tally.equal(result[0], refusal, what + ": refusal")
+        tally.equal(result, getattr(door_ref, call)(*args), what + ": answer")
+        if refusal:
+            tally.equal(list(result[1:]), [args[k] for k in WRITTEN[call]], what + ": unchanged")
+        count += 1
+        refusals.add((call, refusal))
+    return tally.finish("%d cases of %d pairs of call and answer" % (count, len(refusals)))
+
+
+if __name__ == "__main__":
+    sys.exit(main())

@@ -1,0 +1,160 @@
+#!/usr/bin/env python3
+"""Random calls of every function of the C door against the reference.
+
+    test_fuzz.py [--seed S] [--count N]
+
+N calls with random sizes, widths, counts and damaged forms, each held to the
+reference's answer and to every byte lent; guard bytes stand round every
+buffer.  Forms that calls return are used again.
+"""
+
+import collections
+import sys
+
+from tally import Tally, message, random_arguments
+import door_ref
+import product
+import simd_ref as ref
+import tapes
+
+LIMIT = 4294967295
+SPARE_WIDTHS = (0, 1, 2, 128, 223, 225, 255, 257, 383, 385, 511, 513, 65535)
+
+
+def near(rng, size):
+    """A size, often the given one or next to it."""
+    kind = rng.randrange(8)
+    if kind < 4:
+        return size
+    if kind < 6:
+        return max(0, size + rng.choice((-1, 1)))
+    return rng.choice((0, rng.randrange(2 * size + 1)))
+
+
+def a_width(rng):
+    return rng.choice(ref.WIDTHS) if rng.randrange(8) else rng.choice(SPARE_WIDTHS)
+
+
+def block_size(width):
+    return ref.block_bytes(width) if width in ref.WIDTHS else 64
+
+
+def a_message(rng, longest):
+    """(bytes, bits): some with bits or bytes past the count, or too few bytes."""
+    bits = rng.randrange(8 * longest)
+    data = message(rng, bits)
+    kind = rng.randrange(6)
+    if kind == 0:
+        return rng.randbytes(len(data)), bits
+    if kind == 1:
+        return data + rng.randbytes(rng.randrange(20)), bits
+    if kind == 2:
+        return data, rng.choice((bits + 1, bits + 8, 8 * len(data) + 1, 2 ** 64 - 1))
+    return data, bits
+
+
+class Calls:
+    """Arguments for each call, in the order of tests/product.py."""
+
+    def __init__(self, rng):
+        self.rng = rng
+        self.forms = []                  # some that calls returned
+
+    def lent(self, size):
+        return self.rng.randbytes(near(self.rng, size))
+
+    def number(self):
+        return self.rng.randrange(2 ** 64)
+
+    def form(self):
+        rng = self.rng
+        if self.forms and rng.randrange(2):
+            form = bytearray(rng.choice(self.forms))
+        else:
+            width = rng.choice(ref.WIDTHS)
+            size = ref.block_bytes(width)
+            length = rng.choice((rng.randrange(4 * size), rng.randrange(LIMIT + 1),
+                                 LIMIT - rng.randrange(3000), LIMIT))
+            tail = message(rng, length % (8 * size)).ljust(size, b"\0")
+            form = bytearray(width.to_bytes(2, "little") + length.to_bytes(4, "little")
+                             + rng.randbytes(size) + tail)
+        kind = rng.randrange(10)
+        if kind == 0:                    # a bit changed, or in the last bytes
+            place = rng.choice((rng.randrange(len(form)), len(form) - 1 - rng.randrange(8)))
+            form[place] ^= 1 << rng.randrange(8)
+        elif kind == 1:
+            form[:2] = a_width(rng).to_bytes(2, "little")
+        elif kind == 2:
+            form = form[:rng.randrange(len(form))]
+        elif kind == 3:
+            form += rng.randbytes(rng.choice((1, 128)))
+        return bytes(form)
+
+    def keep(self, form):
+        self.forms = self.forms[-20:] + [form]
+
+    def open(self):
+        width = a_width(self.rng)
+        return width, self.lent(6 + 2 * block_size(width))
+
+    def feed(self):
+        return self.form(), *a_message(self.rng, 300), self.number()
+
+    def take(self):
+        form = self.form()
+        return form, self.lent(int.from_bytes(form[:2], "little") % 1024 // 8), self.number()
+
+    def hash(self):
+        width = a_width(self.rng)
+        return width, *a_message(self.rng, 300), self.lent(width % 1024 // 8)
+
+    def expand(self):
+        width = a_width(self.rng)
+        size = block_size(width)
+        words = [self.rng.randrange(2 ** 32) for _ in range(near(self.rng, 2 * size))]
+        return width, bool(self.rng.randrange(2)), self.lent(size), words
+
+    def steps(self):
+        width = a_width(self.rng)
+        size = block_size(width)
+        return width, bool(self.rng.randrange(2)), self.lent(size), self.lent(size), self.lent(size)
+
+    unsteps = steps
+
+    def compare(self):
+        rng, width = self.rng, a_width(self.rng)
+        a = a_message(rng, 200)
+        b = a if rng.randrange(2) else a_message(rng, 200)
+        if a[0] and not rng.randrange(3):
+            changed = bytearray(a[0])
+            changed[rng.randrange(len(changed))] ^= 1 << rng.randrange(8)
+            b = bytes(changed), a[1]
+        return (width, *a, *b, self.number(), self.number())
+
+    def tape(self):
+        tape = tapes.random_tape(self.rng)
+        return tape, self.rng.randbytes(self.rng.randrange(257)), self.number(), self.number()
+
+
+NAMES = ("open", "feed", "take", "hash", "expand", "steps", "unsteps", "compare", "tape")
+
+
+def main():
+    rng, count = random_arguments(6, 4000)
+    tally, calls = Tally("fuzz"), Calls(rng)
+    met = {name: collections.Counter() for name in NAMES}
+    for k in range(count):
+        name = NAMES[k % len(NAMES)]
+        arguments = getattr(calls, name)()
+        found = getattr(product, name)(*arguments)
+        tally.equal(found, getattr(door_ref, name)(*arguments), "call %d, %s" % (k, name))
+        met[name][found[0]] += 1
+        if found[0] == 0 and name == "feed":
+            calls.keep(found[1])
+    for name in NAMES:
+        print("fuzz, %s: %s" % (name, ", ".join("%d: %d" % item for item in sorted(met[name].items()))))
+    return tally.finish("%d calls" % count)
+
+
+if __name__ == "__main__":
+    sys.exit(main())
