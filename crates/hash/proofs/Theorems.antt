@@ -21,6 +21,7 @@ use Rattle.laws.proofs.Chain.{length-compression}
 use Rattle.tail.specs.Zero.{allZero, clear}
 use Rattle.hash.specs.Open.{limit, family, used, reached, pending, holding, legal, openRefusal, opened, openAnswer, fullBlocks, advanced, feedAnswer, finalOf, digestOf, takeRefusal, taken, takeAnswer, written}
 use Rattle.hash.specs.declared.Hash.{Hash}
+use Rattle.hash.specs.declared.Opened.{Opened}
 use Rattle.hash.specs.declared.Fed.{Fed}
 use Rattle.hash.specs.Form.{formOf, hashOf, restoreRefusal, restoreAnswer}
 use Rattle.tail.proofs.Zeros.{clear-of}
@@ -305,6 +306,9 @@ unfolding restoreAnswer opened
 stored-restored h v good =
     let hash = form-hash h v good in
     rw (form-accepted h v good) (λ i. record { hash = hash i; refusal = 0 })
+
+pub goes-on : (h : Hash) → Value h → legal h ≡ true → (ps : List Piece) → feedAll (restoreAnswer (formOf h) .hash) ps ≡ feedAll h ps
+goes-on h v good ps = ap (λ (r : Opened). feedAll (r .hash) ps) (stored-restored h v good)
 
 -- An accepted form stored again is the same bytes, and its hash is legal, whether or not a message reaches its state.
 pub restored-stored : (form : List ℕ) → ((i : ℕ) → getD form i 0 < 256) → restoreAnswer form .refusal ≡ 0
