@@ -19,7 +19,7 @@ use Rattle.compression.specs.Absorbed.{absorbed}
 use Rattle.compression.specs.Flat.{flat}
 
 -- A part of a list by its elements.
-part : (n k : ℕ) (l : List ℕ) → k + n ≤ length l → take n (drop k l) ≡ table n (λ j. getD l (k + j) 0)
+pub part : (n k : ℕ) (l : List ℕ) → k + n ≤ length l → take n (drop k l) ≡ table n (λ j. getD l (k + j) 0)
 part n k l fits =
     table-of 0 n (λ j. getD l (k + j) 0) (take n (drop k l)) (simp (length-take, length-drop) (omega arith))
     (λ j below. getD-take n (drop k l) j 0 below ∙ getD-drop k l j 0)
@@ -39,13 +39,13 @@ split-columns large l size = sym (λ t. part 8 0 l (omega arith) t ∷ part 8 8 
 own : (n : ℕ) (l : List ℕ) → length l ≡ n → l ≡ table n (λ j. getD l j 0)
 own n l size = table-of 0 n (λ j. getD l j 0) l size (λ j below. refl)
 
-record Sized (f : Family) (s : State) : Type 0 where
-  a-size : length (s .a) ≡ rows f
-  b-size : length (s .b) ≡ rows f
-  c-size : length (s .c) ≡ rows f
-  d-size : length (s .d) ≡ rows f
+pub record Sized (f : Family) (s : State) : Type 0 where
+  pub a-size : length (s .a) ≡ rows f
+  pub b-size : length (s .b) ≡ rows f
+  pub c-size : length (s .c) ≡ rows f
+  pub d-size : length (s .d) ≡ rows f
 
-flat-words : (f : Family) (s : State) → Sized f s → flat f (columns s) ≡ words s
+pub flat-words : (f : Family) (s : State) → Sized f s → flat f (columns s) ≡ words s
 unfolding flat words table
 flat-words small s sized =
     sym (λ t. own 4 (s .a) (sized .a-size) t ++ own 4 (s .b) (sized .b-size) t ++ own 4 (s .c) (sized .c-size) t ++ own 4 (s .d) (sized .d-size) t)

@@ -12,7 +12,7 @@ fn wide(x: u8) -> u32
 }
 
 // Word i of a byte string, low byte first.
-pub(crate) fn word(bytes: &[u8], i: usize) -> u32
+pub fn word(bytes: &[u8], i: usize) -> u32
     requires { ⌜ 4 * i + 4 ≤ length (now bytes) ⌝ }
     ensures { λ v. ⌜ v ≡ wordAt (now (bytes .entry)) i ⌝ }
 {

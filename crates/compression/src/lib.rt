@@ -9,7 +9,7 @@ ghost use Rattle.simd.specs.Message.{lengthBlock};
 ghost use Rattle.simd.specs.Steps.{compression};
 ghost use Rattle.compression.specs.Absorbed.{absorbed};
 
-mod block;
+pub mod block;
 pub mod large;
 pub mod small;
 

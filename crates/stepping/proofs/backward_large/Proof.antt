@@ -1,0 +1,78 @@
+use mathlib.Core.List.{_++_}
+use mathlib.Core.Path.{_∙_}
+use lib.ListN.{drop}
+use Rattle.simd.specs.Basic.{large}
+use Rattle.stepping.proofs.Calls.{y-size, backward-bytes}
+use borrow.Author.Needs.{needs}
+use Rattle.stepping.proofs.backward_large.Statement.{statement}
+use Rattle.stepping.proofs.backward_large.Tie as tie
+
+roots-requires : tie.Need-roots-requires
+roots-requires c κs = search needs
+
+added-large-requires : tie.Need-added-large-requires
+added-large-requires c κs = search needs
+
+slice-aggregate-expand-large : tie.Need-slice-aggregate-expand-large
+slice-aggregate-expand-large c = search needs
+
+slice-aggregate-expand-large-2 : tie.Need-slice-aggregate-expand-large-2
+slice-aggregate-expand-large-2 c = search needs
+
+expand-large-requires : tie.Need-expand-large-requires
+expand-large-requires c κs = search needs
+
+slice-aggregate-read : tie.Need-slice-aggregate-read
+slice-aggregate-read c = search needs
+
+read-requires : tie.Need-read-requires
+read-requires c κs = search needs
+
+split-requires : tie.Need-split-requires
+split-requires c κs = search needs
+
+unsteps-requires : tie.Need-unsteps-requires
+unsteps-requires c κs = search needs
+
+flat-requires : tie.Need-flat-requires
+flat-requires c κs = search needs
+
+slice-aggregate-write : tie.Need-slice-aggregate-write
+slice-aggregate-write c = search needs
+
+write-requires : tie.Need-write-requires
+write-requires c κs = search needs
+
+same-length : tie.Need-same-length
+same-length c = search needs
+
+returns : tie.Need-returns
+returns c =
+    let p = c .before .before .before .before .before .before .before .before .before .before .before .before .before .before .before .before .before .before .before .before .args in
+    let t = c .before .before .before .before .before .before .unsteps .result in
+    let x-is = c .before .before .before .before .before .before .before .before .before .before .read .ensures in
+    let m-is = c .before .before .before .before .before .before .before .before .split .ensures in
+    let w-is = c .before .before .before .before .before .before .before .before .before .before .before .before .expand-large .ensures in
+    let y-is = c .before .before .before .before .before .flat .ensures in
+    let bytes = backward-bytes large (p .last) (p .state .now) (p .block .now) t x-is m-is w-is y-is (c .before .before .before .before .before .before .unsteps .ensures) in
+    let size = y-size large (p .last) (p .state .now) (p .block .now) t x-is m-is w-is y-is in
+    c .before .before .write .ensures ∙ (λ i. bytes i ++ drop (size i) (p .out .now))
+
+pub backward-large-spec : {M : Type 1} → statement M
+backward-large-spec =
+    tie.close
+    (tie.spec
+    roots-requires
+    added-large-requires
+    slice-aggregate-expand-large
+    slice-aggregate-expand-large-2
+    expand-large-requires
+    slice-aggregate-read
+    read-requires
+    split-requires
+    unsteps-requires
+    flat-requires
+    slice-aggregate-write
+    write-requires
+    same-length
+    returns)

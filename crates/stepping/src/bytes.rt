@@ -1,0 +1,50 @@
+// The words of a byte string, and the bytes of a string of words.
+use compression::block::word;
+ghost use mathlib.Core.List.{_++_};
+ghost use mathlib.Core.Path.{_≡_};
+ghost use Prim.Native.Nat.{_*_, _/_, _%_, _^_, _<_, _≤_};
+ghost use lib.ListN.{length, drop};
+ghost use Rattle.simd.specs.Basic.{wordsOf, bytesOf};
+
+// Byte k of a word, low byte first.
+fn byte(x: u32, k: usize) -> u8
+    requires { ⌜ k < 4 ⌝ }
+    ensures { λ v. ⌜ v ≡ x / 256 ^ k % 256 ⌝ }
+{
+    if k == 0 {
+        return (x % 256) as u8;
+    }
+    if k == 1 {
+        return (x / 256 % 256) as u8;
+    }
+    if k == 2 {
+        return (x / 65536 % 256) as u8;
+    }
+    (x / 16777216 % 256) as u8
+}
+
+// Reads as many words as are lent.
+pub(crate) fn read(words: &mut [u32], bytes: &[u8])
+    requires { ⌜ 4 * length (now words) ≤ length (now bytes) ⌝ }
+    ensures { λ _. ⌜ now (words .exit) ≡ wordsOf (length (now (words .entry))) (now (bytes .entry)) ⌝ }
+{
+    let n = words.len();
+    let mut i = 0;
+    while i < n {
+        words[i] = word(bytes, i);
+        i += 1;
+    }
+}
+
+// Writes the bytes of all words to the front of out.
+pub(crate) fn write(words: &[u32], out: &mut [u8])
+    requires { ⌜ 4 * length (now words) ≤ length (now out) ⌝ }
+    ensures { λ _. ⌜ now (out .exit) ≡ bytesOf (now (words .entry)) ++ drop (4 * length (now (words .entry))) (now (out .entry)) ⌝ }
+{
+    let n = 4 * words.len();
+    let mut j = 0;
+    while j < n {
+        out[j] = byte(words[j / 4], j % 4);
+        j += 1;
+    }
+}
