@@ -1,3 +1,4 @@
+-- Each test picks its case of the definition.
 use borrow.Author.Tests.{eq-eqb, ne-eqb, le-leb, lt-leb}
 use Rattle.expansion.specs.Call.{sizeRefusal}
 use Rattle.expansion.proofs.size_refusal.Statement.{statement}
