@@ -5,7 +5,7 @@ ghost use Prim.Native.Nat.{_%_, _≤_};
 ghost use lib.ListN.{length, drop};
 ghost use Rattle.simd.specs.Basic.{small, large, isWidth, table};
 ghost use Rattle.simd.specs.Expansion.{added as addedTo, expanded};
-ghost use Rattle.transform.specs.Stage.{Roots};
+ghost use Rattle.transform_tables.specs.Roots.{Roots};
 ghost use Rattle.expansion.specs.Call.{sizeRefusal, expandRefusal, expandOutput};
 
 mod output;
@@ -53,13 +53,14 @@ fn size_refusal(block: usize, words: usize, bytes: usize, room: usize) -> u8
     0
 }
 
-// The expanded block. The tables are those of `transform::tables::roots` and `transform::tables::added_small`.
+// The expanded block. The tables are those of `transform_tables::roots` and `transform_tables::added_small`.
 pub fn expand_small(block: &[u8], roots: &[u16], added: &[u16], last: bool) -> [[u32; 4]; 32]
     requires { ⌜ (length (now block) ≡ 64) × Roots (now roots) ⌝ }
     requires { ⌜ now added ≡ table 128 (λ i. addedTo small last i % 257) ⌝ }
     ensures { λ r. ⌜ r ≡ expanded small last (now (block .entry)) ⌝ }
 {
-    let y = transform::small(block, roots, added, last);
+    let mut y = [0u16; 128];
+    transform::small(block, roots, added, &mut y, last);
     matrix::permuted_small(matrix::matrix_small(&y))
 }
 
@@ -68,19 +69,20 @@ fn write_small(last: bool, block: &[u8], out: &mut [u32])
     requires { ⌜ (length (now block) ≡ 64) × (128 ≤ length (now out)) ⌝ }
     ensures { λ _. ⌜ now (out .exit) ≡ flatten (expanded small last (now (block .entry))) ++ drop 128 (now (out .entry)) ⌝ }
 {
-    let roots = transform::tables::roots();
-    let added = transform::tables::added_small(last);
+    let roots = transform_tables::roots();
+    let added = transform_tables::added_small(last);
     let rows = expand_small(block, &roots, &added, last);
     output::put_small(rows, out);
 }
 
-// The expanded block. The tables are those of `transform::tables::roots` and `transform::tables::added_large`.
+// The expanded block. The tables are those of `transform_tables::roots` and `transform_tables::added_large`.
 pub fn expand_large(block: &[u8], roots: &[u16], added: &[u16], last: bool) -> [[u32; 8]; 32]
     requires { ⌜ (length (now block) ≡ 128) × Roots (now roots) ⌝ }
     requires { ⌜ now added ≡ table 256 (λ i. addedTo large last i % 257) ⌝ }
     ensures { λ r. ⌜ r ≡ expanded large last (now (block .entry)) ⌝ }
 {
-    let y = transform::large(block, roots, added, last);
+    let mut y = [0u16; 256];
+    transform::large(block, roots, added, &mut y, last);
     matrix::permuted_large(matrix::matrix_large(&y))
 }
 
@@ -89,8 +91,8 @@ fn write_large(last: bool, block: &[u8], out: &mut [u32])
     requires { ⌜ (length (now block) ≡ 128) × (256 ≤ length (now out)) ⌝ }
     ensures { λ _. ⌜ now (out .exit) ≡ flatten (expanded large last (now (block .entry))) ++ drop 256 (now (out .entry)) ⌝ }
 {
-    let roots = transform::tables::roots();
-    let added = transform::tables::added_large(last);
+    let roots = transform_tables::roots();
+    let added = transform_tables::added_large(last);
     let rows = expand_large(block, &roots, &added, last);
     output::put_large(rows, out);
 }

@@ -1,7 +1,7 @@
 -- Arithmetic modulo 257, and the laws of `power`.
 use mathlib.Core.Path.{_≡_, refl, sym, ap, _∙_}
-use Prim.Native.Nat.{ℕ, zero, suc, _+_, _*_, _/_, _%_, _<_, _≤_}
-use native.Mathlib.Nat.{add-zero, add-suc, mul-zero, mul-suc, mul-comm, mul-one, mul-left-comm, mod-lt, mod-mod, mod-eq-of-lt}
+use Prim.Native.Nat.{ℕ, zero, suc, _+_, _*_, _/_, _%_, _<_}
+use native.Mathlib.Nat.{add-zero, add-suc, mul-zero, mul-suc, mul-comm, mul-one, mul-left-comm, mod-lt}
 use native.Mathlib.Omega.{arith}
 use lib.Dec.{lit<}
 use Rattle.simd.specs.Basic.{sum}

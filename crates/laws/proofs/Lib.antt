@@ -3,3 +3,4 @@ pub mod Sum
 pub mod Fill
 pub mod Append
 pub mod Field
+pub mod Stores

@@ -1,14 +1,15 @@
 -- What a whole stage of butterflies does, in either order of places.
 use mathlib.Core.List.{List}
 use mathlib.Core.Logic.{⊎-elim}
-use mathlib.Core.Path.{_≡_, refl, sym, ap, _∙_, subst}
+use mathlib.Core.Path.{_≡_, sym, ap, _∙_, subst}
 use Prim.Native.Nat.{ℕ, zero, suc, _+_, _*_, _^_, _<_, _≤_}
 use native.Mathlib.Nat.{pow-suc, mul-le-mul-right, suc-mul, eq-or-lt-of-le}
 use native.Mathlib.Omega.{arith}
 use lib.ListN.{getD}
 use lib.Pow.{pow-pos}
 use Rattle.simd.specs.Expansion.{power}
-use Rattle.transform.specs.Stage.{Level, Leads, Butterfly, Roots}
+use Rattle.transform.specs.Stage.{Leads, Butterfly}
+use Rattle.transform_tables.specs.Roots.{Roots}
 use Rattle.transform.proofs.Level.{next}
 
 -- One place more is still within the whole.

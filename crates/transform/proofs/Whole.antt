@@ -1,17 +1,17 @@
 -- From the block to the first level, from columns to rows, and from the last level to the transform.
 use mathlib.Core.Bool.{Bool}
 use mathlib.Core.List.{List}
-use mathlib.Core.Path.{_≡_, refl, sym, ap, _∙_, subst}
+use mathlib.Core.Path.{_≡_, sym, ap, _∙_, subst}
 use Prim.Native.Nat.{ℕ, zero, suc, _+_, _*_, _/_, _%_, _≤_, _<_}
-use native.Mathlib.Nat.{add-zero, zero-add, mul-zero, zero-mul, one-mul, mul-one, mul-le-mul-left, le-of-suc-le-suc, not-suc-le-zero}
+use native.Mathlib.Nat.{add-zero, zero-mul, mul-le-mul-left}
 use native.Mathlib.Omega.{arith}
 use lib.ListN.{length, getD, List·getD-eq-default}
-use Rattle.simd.specs.Basic.{Family, blockBytes, points, table, sum}
+use Rattle.simd.specs.Basic.{Family, blockBytes, table, sum}
 use Rattle.simd.specs.Constants.{root}
 use Rattle.simd.specs.Expansion.{power, added, transform}
-use Rattle.laws.proofs.Sum.{sum-suc, sum-ext, sum-zero, sum-append}
+use Rattle.laws.proofs.Sum.{sum-ext, sum-zero, sum-append}
 use Rattle.laws.proofs.Table.{table-of, getD-table}
-use Rattle.laws.proofs.Field.{Same, same-of, same-add, same-mod, same-trans, same-refl, power-zero}
+use Rattle.laws.proofs.Field.{same-of, same-add, same-mod, same-trans, power-zero}
 use Rattle.transform.specs.Stage.{part, Level}
 
 -- The numbers that are transformed: the block's bytes, and zero past its end.

@@ -1,10 +1,10 @@
 // The parts of the transform, for both families. Numbers are kept modulo 257 in 16 bits, and loops run over neighbouring places, so that
 // they become vector code.
-ghost use mathlib.Core.List.{List};
 ghost use mathlib.Core.Path.{_≡_};
 ghost use Prim.Native.Nat.{ℕ, _+_, _*_, _%_, _≤_, _<_};
 ghost use lib.ListN.{length, getD};
-ghost use Rattle.transform.specs.Stage.{Butterfly, Level, Leads, Roots};
+ghost use Rattle.transform.specs.Stage.{Butterfly, Leads};
+ghost use Rattle.transform_tables.specs.Roots.{Roots};
 
 // f times y modulo 257, below 513: f y - 257 q, where q is 255 f y / 65536 and so at most f y / 257, and less by less than 2.
 fn product(f: u16, g: u16, y: u16) -> u16
@@ -83,21 +83,6 @@ pub fn shuffle(x: &[u16], y: &mut [u16], half: usize)
         y[2 * i + 1] = x[half + i];
         i += 1;
     }
-}
-
-// The first three levels of a block of 4 m bytes: eight values at each of m places, the values of a place side by side.
-pub fn spread(block: &[u8], x: &mut [u16], y: &mut [u16], t: &[u16], m: usize)
-    requires { ⌜ (m ≤ 32) × Roots (now t) ⌝ }
-    requires { ⌜ (length (now block) ≡ 4 * m) × (length (now x) ≡ 8 * m) × (length (now y) ≡ 8 * m) ⌝ }
-    ensures { λ r. ⌜ Level (λ j. getD (now (block .entry)) j 0) 32 m 8 1283 (λ k q. q * 8 + k) (now (y .exit)) ⌝ }
-{
-    let half = 4 * m;
-    begin(block, x, half);
-    columns(x, y, t, 2, 2 * m, half);
-    columns(y, x, t, 4, m, half);
-    shuffle(x, y, half);
-    shuffle(y, x, half);
-    shuffle(x, y, half);
 }
 
 // The butterflies of one place: l neighbouring values, by a row of factors.

@@ -1,9 +1,9 @@
 use mathlib.Core.List.{List}
 use mathlib.Core.Path.{_≡_, refl}
-use Prim.Native.Nat.{ℕ, _+_, _*_, _-_, _≤_}
+use Prim.Native.Nat.{ℕ, _+_, _-_, _≤_}
 use native.Mathlib.Omega.{arith}
-use lib.ListN.{length, getD, length-set}
-use Rattle.transform.proofs.Pairs.{Stored, stored-none, stored-more, fresh-halves}
+use lib.ListN.{getD, length-set}
+use Rattle.laws.proofs.Stores.{Stored, stored-none, stored-more, fresh-halves}
 use Rattle.transform.proofs.stage.begin.Statement.{statement}
 use Rattle.transform.proofs.stage.begin.Tie as tie
 

@@ -1,7 +1,7 @@
-use Prim.Native.Nat.{ℕ, _+_, _-_, _%_, _≤_}
+use Prim.Native.Nat.{_+_, _-_, _%_, _≤_}
 use native.Mathlib.Omega.{arith}
 use lib.ListN.{getD}
-use Rattle.transform.proofs.Pairs.{Filled, filled-none, filled-more}
+use Rattle.laws.proofs.Stores.{Filled, filled-none, filled-more}
 use Rattle.transform.proofs.stage.finish.Statement.{statement}
 use Rattle.transform.proofs.stage.finish.Tie as tie
 

@@ -1,10 +1,10 @@
 use mathlib.Core.List.{List}
 use Prim.Native.Nat.{ℕ, _+_, _*_, _-_, _≤_}
 use native.Mathlib.Omega.{arith}
-use lib.ListN.{length, getD, length-set}
+use lib.ListN.{getD, length-set}
 use Rattle.transform.specs.Stage.{Butterfly}
 use Rattle.transform.proofs.Product.{butterfly}
-use Rattle.transform.proofs.Pairs.{Stored, stored-none, stored-more, fresh-runs}
+use Rattle.laws.proofs.Stores.{Stored, stored-none, stored-more, fresh-runs}
 use Rattle.transform.proofs.stage.row.Statement.{statement}
 use Rattle.transform.proofs.stage.row.Tie as tie
 

@@ -1,8 +1,8 @@
 -- The tables of powers and of added constants: one test over each whole table, and the laws that make it a rule at each entry.
-use mathlib.Core.Bool.{Bool, true, false, cond}
+use mathlib.Core.Bool.{Bool, cond}
 use mathlib.Core.List.{List}
-use mathlib.Core.Path.{_≡_, refl, sym, ap, _∙_}
-use Prim.Native.Nat.{ℕ, zero, suc, _+_, _*_, _-_, _/_, _%_, _<_}
+use mathlib.Core.Path.{_≡_, sym, ap, _∙_}
+use Prim.Native.Nat.{ℕ, zero, suc, _+_, _*_, _/_, _%_, _<_}
 use native.Mathlib.Nat.{mul-assoc, one-mul}
 use native.Mathlib.Omega.{arith}
 use lib.Dec.{T, eqb, eqb→eq}
@@ -10,7 +10,7 @@ use lib.ListN.{length, getD}
 use Rattle.simd.specs.Basic.{Family, small, large, points, table}
 use Rattle.simd.specs.Expansion.{power, added}
 use Rattle.laws.proofs.Table.{every, every-at, table-of}
-use Rattle.laws.proofs.Field.{Same, same-eq, same-trans, same-of, power-lt, power-add, power-mul, power-multiple, power-139, order-of-41, power-zero, power-suc}
+use Rattle.laws.proofs.Field.{same-eq, same-trans, same-of, power-lt, power-add, power-multiple, power-139, order-of-41, power-zero, power-suc}
 
 -- The successor rule of the powers: entry k + 1 is 41 times entry k, and past the last one 1 comes again.
 abbrev pub follows : List ℕ → ℕ → ℕ → Bool

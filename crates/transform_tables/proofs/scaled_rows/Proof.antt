@@ -1,10 +1,10 @@
 use mathlib.Core.Path.{_≡_, sym, subst}
-use Prim.Native.Nat.{ℕ, _+_, _*_, _-_, _≤_, _<_}
+use Prim.Native.Nat.{_+_, _*_, _-_, _≤_}
 use native.Mathlib.Omega.{arith}
 use lib.ListN.{getD, set}
-use Rattle.transform.proofs.Pairs.{Filled, filled-none, filled-more}
-use Rattle.transform.proofs.tables.scaled_rows.Statement.{statement}
-use Rattle.transform.proofs.tables.scaled_rows.Tie as tie
+use Rattle.laws.proofs.Stores.{Filled, filled-none, filled-more}
+use Rattle.transform_tables.proofs.scaled_rows.Statement.{statement}
+use Rattle.transform_tables.proofs.scaled_rows.Tie as tie
 
 abbrev Inv-loop : tie.InvT-loop
 Inv-loop t₀ j₀ t j = (j ≤ 255) × Filled (λ j. 255 * getD t₀ (1 + j) 0) (λ j. 257 + j) t₀ t j

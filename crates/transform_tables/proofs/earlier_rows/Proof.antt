@@ -1,12 +1,12 @@
 use mathlib.Core.Path.{_≡_, refl, sym, _∙_, subst}
-use Prim.Native.Nat.{ℕ, _+_, _*_, _-_, _≤_, _<_}
+use Prim.Native.Nat.{ℕ, _+_, _-_, _≤_, _<_}
 use native.Mathlib.Omega.{arith}
 use lib.ListN.{length, getD, length-set}
 use lib.Seq.{getD-set-other}
-use Rattle.transform.specs.Stage.{Halved}
-use Rattle.transform.proofs.Roots.{halved-none, halved-more}
-use Rattle.transform.proofs.tables.earlier_rows.Statement.{statement}
-use Rattle.transform.proofs.tables.earlier_rows.Tie as tie
+use Rattle.transform_tables.specs.Roots.{Halved}
+use Rattle.transform_tables.proofs.Making.{halved-none, halved-more}
+use Rattle.transform_tables.proofs.earlier_rows.Statement.{statement}
+use Rattle.transform_tables.proofs.earlier_rows.Tie as tie
 
 abbrev Inv-loop : tie.InvT-loop
 Inv-loop t₀ i₀ t i = (0 < i) × (i ≤ 128) × (length t ≡ length t₀) × ((k : ℕ) → k < 128 → getD t (128 + k) 0 ≡ getD t₀ (128 + k) 0) × Halved t i

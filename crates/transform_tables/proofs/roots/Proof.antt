@@ -2,9 +2,9 @@ use mathlib.Core.Path.{_∙_}
 use native.Mathlib.Omega.{arith}
 use borrow.Author.Needs.{needs}
 use Rattle.laws.proofs.Field.{power-lt}
-use Rattle.transform.proofs.Roots.{last-power, roots-made}
-use Rattle.transform.proofs.tables.roots.Statement.{statement}
-use Rattle.transform.proofs.tables.roots.Tie as tie
+use Rattle.transform_tables.proofs.Making.{last-power, roots-made}
+use Rattle.transform_tables.proofs.roots.Statement.{statement}
+use Rattle.transform_tables.proofs.roots.Tie as tie
 
 powers-requires : tie.Need-powers-requires
 powers-requires c κs = search needs

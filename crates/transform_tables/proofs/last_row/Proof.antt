@@ -1,10 +1,9 @@
-use mathlib.Core.Path.{_≡_, refl, _∙_}
-use Prim.Native.Nat.{ℕ, _+_, _*_, _-_, _≤_, _<_}
+use Prim.Native.Nat.{_+_, _-_, _≤_}
 use native.Mathlib.Omega.{arith}
-use lib.ListN.{length, getD, length-set}
-use Rattle.transform.proofs.Pairs.{Filled, filled-none, filled-more}
-use Rattle.transform.proofs.tables.last_row.Statement.{statement}
-use Rattle.transform.proofs.tables.last_row.Tie as tie
+use lib.ListN.{getD}
+use Rattle.laws.proofs.Stores.{Filled, filled-none, filled-more}
+use Rattle.transform_tables.proofs.last_row.Statement.{statement}
+use Rattle.transform_tables.proofs.last_row.Tie as tie
 
 abbrev Inv-loop : tie.InvT-loop
 Inv-loop powers t₀ k₀ t k = (k ≤ 128) × Filled (λ j. getD powers j 0) (λ j. 128 + j) t₀ t k

@@ -10,7 +10,7 @@ use lib.Seq.{getD-set-same, getD-set-other}
 use Rattle.simd.specs.Basic.{table}
 use Rattle.simd.specs.Expansion.{power}
 use Rattle.laws.proofs.Table.{getD-table}
-use Rattle.transform.specs.Stage.{Halved, Roots}
+use Rattle.transform_tables.specs.Roots.{Halved, Roots}
 
 module _ (t : List ℕ) (i : ℕ) (first : 0 < i) (last : i < 128) (fits : i < length t) (done : Halved t (i + 1)) where
   next : List ℕ

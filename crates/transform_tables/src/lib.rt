@@ -1,16 +1,15 @@
 // The constant tables: the powers of 41 modulo 257, the added constants (section 1.2.2), and the roots that the transform reads.
 // A constant array is built anew wherever it is named: a caller takes a table once and lends it for many blocks.
-ghost use mathlib.Core.Bool.{Bool};
 ghost use mathlib.Core.Path.{_≡_};
 ghost use Prim.Native.Nat.{ℕ, _+_, _*_, _%_, _<_};
 ghost use lib.ListN.{length, getD};
 ghost use Rattle.simd.specs.Basic.{small as smallFamily, large as largeFamily, table};
 ghost use Rattle.simd.specs.Expansion.{power, added};
-ghost use Rattle.transform.specs.Stage.{Halved, Roots};
+ghost use Rattle.transform_tables.specs.Roots.{Halved, Roots};
 
 // The powers of 41 modulo 257.
 const POWERS: [u16; 256] = [
-    1,
+    1, // 41^0
     41,
     139,
     45,
@@ -26,7 +25,7 @@ const POWERS: [u16; 256] = [
     80,
     196,
     69,
-    2,
+    2, // 41^16
     82,
     21,
     90,
@@ -42,7 +41,7 @@ const POWERS: [u16; 256] = [
     160,
     135,
     138,
-    4,
+    4, // 41^32
     164,
     42,
     180,
@@ -58,7 +57,7 @@ const POWERS: [u16; 256] = [
     63,
     13,
     19,
-    8,
+    8, // 41^48
     71,
     84,
     103,
@@ -74,7 +73,7 @@ const POWERS: [u16; 256] = [
     126,
     26,
     38,
-    16,
+    16, // 41^64
     142,
     168,
     206,
@@ -90,7 +89,7 @@ const POWERS: [u16; 256] = [
     252,
     52,
     76,
-    32,
+    32, // 41^80
     27,
     79,
     155,
@@ -106,7 +105,7 @@ const POWERS: [u16; 256] = [
     247,
     104,
     152,
-    64,
+    64, // 41^96
     54,
     158,
     53,
@@ -122,7 +121,7 @@ const POWERS: [u16; 256] = [
     237,
     208,
     47,
-    128,
+    128, // 41^112
     108,
     59,
     106,
@@ -138,7 +137,7 @@ const POWERS: [u16; 256] = [
     217,
     159,
     94,
-    256,
+    256, // 41^128
     216,
     118,
     212,
@@ -154,7 +153,7 @@ const POWERS: [u16; 256] = [
     177,
     61,
     188,
-    255,
+    255, // 41^144
     175,
     236,
     167,
@@ -170,7 +169,7 @@ const POWERS: [u16; 256] = [
     97,
     122,
     119,
-    253,
+    253, // 41^160
     93,
     215,
     77,
@@ -186,7 +185,7 @@ const POWERS: [u16; 256] = [
     194,
     244,
     238,
-    249,
+    249, // 41^176
     186,
     173,
     154,
@@ -202,7 +201,7 @@ const POWERS: [u16; 256] = [
     131,
     231,
     219,
-    241,
+    241, // 41^192
     115,
     89,
     51,
@@ -218,7 +217,7 @@ const POWERS: [u16; 256] = [
     5,
     205,
     181,
-    225,
+    225, // 41^208
     230,
     178,
     102,
@@ -234,7 +233,7 @@ const POWERS: [u16; 256] = [
     10,
     153,
     105,
-    193,
+    193, // 41^224
     203,
     99,
     204,
@@ -250,7 +249,7 @@ const POWERS: [u16; 256] = [
     20,
     49,
     210,
-    129,
+    129, // 41^240
     149,
     198,
     151,
@@ -270,7 +269,7 @@ const POWERS: [u16; 256] = [
 
 // The added constants: w^(-i), and for the length block w^(-i) + w^(-3i).
 const SMALL_MESSAGE: [u16; 128] = [
-    1,
+    1, // small message, 0
     98,
     95,
     58,
@@ -286,7 +285,7 @@ const SMALL_MESSAGE: [u16; 128] = [
     185,
     140,
     99,
-    193,
+    193, // small message, 16
     153,
     88,
     143,
@@ -302,7 +301,7 @@ const SMALL_MESSAGE: [u16; 128] = [
     239,
     35,
     89,
-    241,
+    241, // small message, 32
     231,
     22,
     100,
@@ -318,7 +317,7 @@ const SMALL_MESSAGE: [u16; 128] = [
     124,
     73,
     215,
-    253,
+    253, // small message, 48
     122,
     134,
     25,
@@ -334,7 +333,7 @@ const SMALL_MESSAGE: [u16; 128] = [
     31,
     211,
     118,
-    256,
+    256, // small message, 64
     159,
     162,
     199,
@@ -350,7 +349,7 @@ const SMALL_MESSAGE: [u16; 128] = [
     72,
     117,
     158,
-    64,
+    64, // small message, 80
     104,
     169,
     114,
@@ -366,7 +365,7 @@ const SMALL_MESSAGE: [u16; 128] = [
     18,
     222,
     168,
-    16,
+    16, // small message, 96
     26,
     235,
     157,
@@ -382,7 +381,7 @@ const SMALL_MESSAGE: [u16; 128] = [
     133,
     184,
     42,
-    4,
+    4, // small message, 112
     135,
     123,
     232,
@@ -401,7 +400,7 @@ const SMALL_MESSAGE: [u16; 128] = [
 ];
 
 const SMALL_LENGTH: [u16; 128] = [
-    2,
+    2, // small length, 0
     156,
     118,
     107,
@@ -417,7 +416,7 @@ const SMALL_LENGTH: [u16; 128] = [
     101,
     151,
     223,
-    189,
+    189, // small length, 16
     178,
     253,
     204,
@@ -433,7 +432,7 @@ const SMALL_LENGTH: [u16; 128] = [
     61,
     248,
     107,
-    0,
+    0, // small length, 32
     131,
     133,
     113,
@@ -449,7 +448,7 @@ const SMALL_LENGTH: [u16; 128] = [
     65,
     249,
     143,
-    189,
+    189, // small length, 48
     8,
     204,
     230,
@@ -465,7 +464,7 @@ const SMALL_LENGTH: [u16; 128] = [
     10,
     21,
     149,
-    255,
+    255, // small length, 64
     101,
     139,
     150,
@@ -481,7 +480,7 @@ const SMALL_LENGTH: [u16; 128] = [
     156,
     106,
     34,
-    68,
+    68, // small length, 80
     79,
     4,
     53,
@@ -497,7 +496,7 @@ const SMALL_LENGTH: [u16; 128] = [
     196,
     9,
     150,
-    0,
+    0, // small length, 96
     126,
     124,
     144,
@@ -513,7 +512,7 @@ const SMALL_LENGTH: [u16; 128] = [
     192,
     8,
     114,
-    68,
+    68, // small length, 112
     249,
     53,
     27,
@@ -532,7 +531,7 @@ const SMALL_LENGTH: [u16; 128] = [
 ];
 
 const LARGE_MESSAGE: [u16; 256] = [
-    1,
+    1, // large message, 0
     163,
     98,
     40,
@@ -548,7 +547,7 @@ const LARGE_MESSAGE: [u16; 256] = [
     151,
     198,
     149,
-    129,
+    129, // large message, 16
     210,
     49,
     20,
@@ -564,7 +563,7 @@ const LARGE_MESSAGE: [u16; 256] = [
     204,
     99,
     203,
-    193,
+    193, // large message, 32
     105,
     153,
     10,
@@ -580,7 +579,7 @@ const LARGE_MESSAGE: [u16; 256] = [
     102,
     178,
     230,
-    225,
+    225, // large message, 48
     181,
     205,
     5,
@@ -596,7 +595,7 @@ const LARGE_MESSAGE: [u16; 256] = [
     51,
     89,
     115,
-    241,
+    241, // large message, 64
     219,
     231,
     131,
@@ -612,7 +611,7 @@ const LARGE_MESSAGE: [u16; 256] = [
     154,
     173,
     186,
-    249,
+    249, // large message, 80
     238,
     244,
     194,
@@ -628,7 +627,7 @@ const LARGE_MESSAGE: [u16; 256] = [
     77,
     215,
     93,
-    253,
+    253, // large message, 96
     119,
     122,
     97,
@@ -644,7 +643,7 @@ const LARGE_MESSAGE: [u16; 256] = [
     167,
     236,
     175,
-    255,
+    255, // large message, 112
     188,
     61,
     177,
@@ -660,7 +659,7 @@ const LARGE_MESSAGE: [u16; 256] = [
     212,
     118,
     216,
-    256,
+    256, // large message, 128
     94,
     159,
     217,
@@ -676,7 +675,7 @@ const LARGE_MESSAGE: [u16; 256] = [
     106,
     59,
     108,
-    128,
+    128, // large message, 144
     47,
     208,
     237,
@@ -692,7 +691,7 @@ const LARGE_MESSAGE: [u16; 256] = [
     53,
     158,
     54,
-    64,
+    64, // large message, 160
     152,
     104,
     247,
@@ -708,7 +707,7 @@ const LARGE_MESSAGE: [u16; 256] = [
     155,
     79,
     27,
-    32,
+    32, // large message, 176
     76,
     52,
     252,
@@ -724,7 +723,7 @@ const LARGE_MESSAGE: [u16; 256] = [
     206,
     168,
     142,
-    16,
+    16, // large message, 192
     38,
     26,
     126,
@@ -740,7 +739,7 @@ const LARGE_MESSAGE: [u16; 256] = [
     103,
     84,
     71,
-    8,
+    8, // large message, 208
     19,
     13,
     63,
@@ -756,7 +755,7 @@ const LARGE_MESSAGE: [u16; 256] = [
     180,
     42,
     164,
-    4,
+    4, // large message, 224
     138,
     135,
     160,
@@ -772,7 +771,7 @@ const LARGE_MESSAGE: [u16; 256] = [
     90,
     21,
     82,
-    2,
+    2, // large message, 240
     69,
     196,
     80,
@@ -791,7 +790,7 @@ const LARGE_MESSAGE: [u16; 256] = [
 ];
 
 const LARGE_LENGTH: [u16; 256] = [
-    2,
+    2, // large length, 0
     203,
     156,
     47,
@@ -807,7 +806,7 @@ const LARGE_LENGTH: [u16; 256] = [
     73,
     162,
     251,
-    97,
+    97, // large length, 16
     215,
     249,
     53,
@@ -823,7 +822,7 @@ const LARGE_LENGTH: [u16; 256] = [
     130,
     223,
     23,
-    189,
+    189, // large length, 32
     202,
     178,
     239,
@@ -839,7 +838,7 @@ const LARGE_LENGTH: [u16; 256] = [
     157,
     65,
     79,
-    96,
+    96, // large length, 48
     161,
     176,
     130,
@@ -855,7 +854,7 @@ const LARGE_LENGTH: [u16; 256] = [
     90,
     107,
     64,
-    0,
+    0, // large length, 64
     88,
     131,
     243,
@@ -871,7 +870,7 @@ const LARGE_LENGTH: [u16; 256] = [
     191,
     111,
     19,
-    251,
+    251, // large length, 80
     61,
     103,
     208,
@@ -887,7 +886,7 @@ const LARGE_LENGTH: [u16; 256] = [
     178,
     143,
     40,
-    189,
+    189, // large length, 96
     129,
     8,
     163,
@@ -903,7 +902,7 @@ const LARGE_LENGTH: [u16; 256] = [
     19,
     227,
     72,
-    247,
+    247, // large length, 112
     125,
     111,
     121,
@@ -919,7 +918,7 @@ const LARGE_LENGTH: [u16; 256] = [
     65,
     149,
     171,
-    255,
+    255, // large length, 128
     54,
     101,
     210,
@@ -935,7 +934,7 @@ const LARGE_LENGTH: [u16; 256] = [
     184,
     95,
     6,
-    160,
+    160, // large length, 144
     42,
     8,
     204,
@@ -951,7 +950,7 @@ const LARGE_LENGTH: [u16; 256] = [
     127,
     34,
     234,
-    68,
+    68, // large length, 160
     55,
     79,
     18,
@@ -967,7 +966,7 @@ const LARGE_LENGTH: [u16; 256] = [
     100,
     192,
     178,
-    161,
+    161, // large length, 176
     96,
     81,
     127,
@@ -983,7 +982,7 @@ const LARGE_LENGTH: [u16; 256] = [
     167,
     150,
     193,
-    0,
+    0, // large length, 192
     169,
     126,
     14,
@@ -999,7 +998,7 @@ const LARGE_LENGTH: [u16; 256] = [
     66,
     146,
     238,
-    6,
+    6, // large length, 208
     196,
     154,
     49,
@@ -1015,7 +1014,7 @@ const LARGE_LENGTH: [u16; 256] = [
     79,
     114,
     217,
-    68,
+    68, // large length, 224
     128,
     249,
     94,
@@ -1031,7 +1030,7 @@ const LARGE_LENGTH: [u16; 256] = [
     238,
     30,
     185,
-    10,
+    10, // large length, 240
     132,
     146,
     136,
