@@ -10,6 +10,9 @@ use borrow.Author.Needs.{needs}
 use Rattle.expansion.proofs.expand_large.Statement.{statement}
 use Rattle.expansion.proofs.expand_large.Tie as tie
 
+slice-aggregate-large : tie.Need-slice-aggregate-large
+slice-aggregate-large c = search needs
+
 large-requires : tie.Need-large-requires
 large-requires c κs = search needs
 
@@ -18,8 +21,8 @@ slice-aggregate-matrix-large c = search needs
 
 matrix-large-requires : tie.Need-matrix-large-requires
 matrix-large-requires c κs =
-    let a = c .before .before .before .before .before .args in
-    let values = c .before .large .ensures in
+    let a = c .before .before .before .before .before .before .before .args in
+    let values = c .before .before .large .ensures in
     (ap length values ∙ length-table 256 (transform large (a .last) (a .block .now)), values-lt 256 large (a .last) (a .block .now) values)
 
 permuted-large-requires : tie.Need-permuted-large-requires
@@ -27,13 +30,14 @@ permuted-large-requires c κs = search needs
 
 returns : tie.Need-returns
 returns c =
-    let a = c .before .before .before .before .before .before .before .args in
-    expanded-of large (a .last) (a .block .now) (c .before .before .before .large .ensures) (c .before .matrix-large .ensures) (c .permuted-large .ensures)
+    let a = c .before .before .before .before .before .before .before .before .before .args in
+    expanded-of large (a .last) (a .block .now) (c .before .before .before .before .large .ensures) (c .before .matrix-large .ensures) (c .permuted-large .ensures)
 
 pub expand-large-spec : {M : Type 1} → statement M
 expand-large-spec =
     tie.close
     (tie.spec
+    slice-aggregate-large
     large-requires
     slice-aggregate-matrix-large
     matrix-large-requires
