@@ -17,6 +17,20 @@ family-small w h = rw (le-leb w 256 h)
 pub family-large : (w : ℕ) → 256 < w → familyOf w ≡ large
 family-large w h = rw (lt-leb w 256 h)
 
+-- The three answers of the sizes.
+module _ (block words bytes room : ℕ) where
+  pub other-size : (bytes ≡ block → ⊥) → 7 ≡ sizeRefusal block words bytes room
+  unfolding sizeRefusal
+  other-size other = rw (ne-eqb bytes block other)
+
+  pub too-short : bytes ≡ block → room < words → 6 ≡ sizeRefusal block words bytes room
+  unfolding sizeRefusal
+  too-short same short = rw (eq-eqb bytes block same, lt-leb words room short)
+
+  pub none : bytes ≡ block → words ≤ room → 0 ≡ sizeRefusal block words bytes room
+  unfolding sizeRefusal
+  none same long = rw (eq-eqb bytes block same, le-leb words room long)
+
 pub unknown : (w bytes room : ℕ) → isWidth w ≡ false → expandRefusal w bytes room ≡ 1
 unfolding expandRefusal
 unknown w bytes room other = ap (λ k. cond k (sizeRefusal (blockBytes (familyOf w)) (expandedWords (familyOf w)) bytes room) 1) other

@@ -1,3 +1,4 @@
+-- What is written is the expanded block.
 use mathlib.Core.List.{_++_, flatten}
 use mathlib.Core.Path.{ap, _∙_}
 use lib.ListN.{drop}

@@ -1,3 +1,4 @@
+-- Place by place, both strings of codes are filled.
 use Prim.Native.Nat.{_-_, _≤_}
 use lib.ListN.{length}
 use Rattle.laws.proofs.Fill.{Filled, filled-none, filled-more, filled-all}

@@ -12,7 +12,7 @@ cast-z : tie.Need-cast-z
 cast-z c = search needs
 
 returns : tie.Need-returns
-returns c = let y = c .before .args .y in rw (toZ-pos w32 {n = y} (omega arith)) (sym (lift-low y (c .if1 .taken)))
+returns c = let y = c .before .args .y in rw (toZ-pos w32 {n = y} (omega arith)) (sym (lift-low y (omega arith)))
 
 sub-result : tie.Need-sub-result
 sub-result c =
@@ -22,7 +22,7 @@ sub-result c =
 returns-2 : tie.Need-returns-2
 returns-2 c =
     let y = c .before .args .y in
-    rw (toZ-ofZ (sub-result c), toZ-pos w32 {n = y} (omega arith)) (sym (lift-high y (c .if1 .left)))
+    rw (toZ-ofZ (sub-result c), toZ-pos w32 {n = y} (omega arith)) (sym (lift-high y (omega arith)))
 
 pub lift-spec : {M : Type 1} → statement M
 lift-spec = tie.close (tie.spec cast-z returns sub-result returns-2)

@@ -1,3 +1,4 @@
+-- With 65536 added the number is positive, and its remainder is the residue.
 use native.Mathlib.Omega.{arith}
 use mir.Facts.{toZ-pos, toZ-ofZ}
 use mir.Syntax.{w32}
@@ -5,8 +6,6 @@ use borrow.Author.Needs.{needs}
 use Rattle.inner_code.proofs.Signed.{raised, raised-is, raised-lt, raised-residue}
 use Rattle.inner_code.proofs.reduced.Statement.{statement}
 use Rattle.inner_code.proofs.reduced.Tie as tie
-use Rattle.inner_code.proofs.reduced.Reads as reads
-use Rattle.inner_code.proofs.reduced.Lts as lts
 
 add-positive : tie.Need-add-positive
 add-positive c = rw (toZ-ofZ (c .fits .z), raised-is (c .args .z) (c .pre)) (record { sfits = omega (arith, raised-lt (c .args .z) (c .pre)) })

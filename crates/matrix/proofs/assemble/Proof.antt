@@ -1,3 +1,4 @@
+-- Codes, then pairs, then all words: together they are the words of Z.
 use Rattle.matrix.proofs.Assembly.{flat-of}
 use borrow.Author.Needs.{needs}
 use Rattle.matrix.proofs.assemble.Statement.{statement}

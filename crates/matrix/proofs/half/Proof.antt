@@ -1,3 +1,4 @@
+-- Both are what the code computes.
 use mathlib.Core.Path.{refl}
 use native.Mathlib.Omega.{arith}
 use Rattle.matrix.specs.Layers.{half}

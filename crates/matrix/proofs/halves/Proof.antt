@@ -1,3 +1,4 @@
+-- Place by place, the words are filled.
 use Prim.Native.Nat.{_-_, _≤_}
 use native.Mathlib.Omega.{arith}
 use Rattle.laws.proofs.Fill.{Filled, filled-none, filled-more, filled-all}

@@ -1,3 +1,4 @@
+-- The first half of the output comes back as the pairs, the rest as the lower rows.
 use mathlib.Core.Path.{sym}
 use Prim.Native.Nat.{_*_}
 use native.Mathlib.Omega.{arith}

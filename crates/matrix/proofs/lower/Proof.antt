@@ -1,3 +1,4 @@
+-- The first half of the output comes back as the low halves, the rest as the high ones.
 use mathlib.Core.Path.{sym}
 use native.Mathlib.Omega.{arith}
 use lib.Seq.{length-take-le}

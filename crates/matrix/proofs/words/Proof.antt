@@ -1,3 +1,4 @@
+-- Place by place, the words are filled.
 use Prim.Native.Nat.{_-_, _≤_}
 use Rattle.laws.proofs.Fill.{Filled, filled-none, filled-more, filled-all}
 use Rattle.matrix.specs.Layers.{neighbours}

@@ -1,3 +1,4 @@
+-- Row by row, the lent words take the rows.
 use mathlib.Core.List.{[]}
 use mathlib.Core.Path.{sym}
 use Prim.Native.Nat.{_-_, _≤_}
