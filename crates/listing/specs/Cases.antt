@@ -4,7 +4,7 @@ use mathlib.Core.Path.{_≡_, refl}
 use lib.ListN.{replicate}
 use Rattle.simd.specs.Basic.{table}
 use Rattle.simd.specs.Message.{bitsOf, message}
-use Rattle.hash.specs.Zero.{allZero, clear}
+use Rattle.tail.specs.Zero.{allZero, clear}
 use Rattle.reader.specs.Reading.{readAt}
 use Rattle.text.specs.Text.{digits, decimal, line, doneLine, refusedLine}
 use Rattle.tape.specs.Run.{feeding, effect, runFor, runFrom}

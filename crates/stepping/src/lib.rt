@@ -43,8 +43,8 @@ fn forward_small(last: bool, state: &[u8], block: &[u8], out: &mut [u8])
     requires { ⌜ (length (now state) ≡ 64) × ((length (now block) ≡ 64) × (64 ≤ length (now out))) ⌝ }
     ensures { λ _. ⌜ now (out .exit) ≡ forward small last (now (state .entry)) (now (block .entry)) ++ drop 64 (now (out .entry)) ⌝ }
 {
-    let roots = transform::tables::roots();
-    let added = transform::tables::added_small(last);
+    let roots = transform_tables::roots();
+    let added = transform_tables::added_small(last);
     let w = expansion::expand_small(block, &roots, &added, last);
     let mut x = [0u32; 16];
     bytes::read(&mut x, state);
@@ -56,8 +56,8 @@ fn forward_large(last: bool, state: &[u8], block: &[u8], out: &mut [u8])
     requires { ⌜ (length (now state) ≡ 128) × ((length (now block) ≡ 128) × (128 ≤ length (now out))) ⌝ }
     ensures { λ _. ⌜ now (out .exit) ≡ forward large last (now (state .entry)) (now (block .entry)) ++ drop 128 (now (out .entry)) ⌝ }
 {
-    let roots = transform::tables::roots();
-    let added = transform::tables::added_large(last);
+    let roots = transform_tables::roots();
+    let added = transform_tables::added_large(last);
     let w = expansion::expand_large(block, &roots, &added, last);
     let mut x = [0u32; 32];
     bytes::read(&mut x, state);
@@ -69,8 +69,8 @@ fn backward_small(last: bool, state: &[u8], block: &[u8], out: &mut [u8])
     requires { ⌜ (length (now state) ≡ 64) × ((length (now block) ≡ 64) × (64 ≤ length (now out))) ⌝ }
     ensures { λ _. ⌜ now (out .exit) ≡ backward small last (now (state .entry)) (now (block .entry)) ++ drop 64 (now (out .entry)) ⌝ }
 {
-    let roots = transform::tables::roots();
-    let added = transform::tables::added_small(last);
+    let roots = transform_tables::roots();
+    let added = transform_tables::added_small(last);
     let w = expansion::expand_small(block, &roots, &added, last);
     let mut x = [0u32; 16];
     bytes::read(&mut x, state);
@@ -82,8 +82,8 @@ fn backward_large(last: bool, state: &[u8], block: &[u8], out: &mut [u8])
     requires { ⌜ (length (now state) ≡ 128) × ((length (now block) ≡ 128) × (128 ≤ length (now out))) ⌝ }
     ensures { λ _. ⌜ now (out .exit) ≡ backward large last (now (state .entry)) (now (block .entry)) ++ drop 128 (now (out .entry)) ⌝ }
 {
-    let roots = transform::tables::roots();
-    let added = transform::tables::added_large(last);
+    let roots = transform_tables::roots();
+    let added = transform_tables::added_large(last);
     let w = expansion::expand_large(block, &roots, &added, last);
     let mut x = [0u32; 32];
     bytes::read(&mut x, state);

@@ -9,7 +9,7 @@ use lib.ListN.{length, getD, take, length-take, List·getD-eq-default}
 use lib.Seq.{getD-take, take-all}
 use Rattle.simd.specs.Message.{bitsOf, message}
 use Rattle.laws.proofs.Bits.{length-bitsOf, getD-bitsOf}
-use Rattle.hash.specs.Zero.{clear}
+use Rattle.tail.specs.Zero.{clear}
 use Rattle.hash.proofs.Zeros.{clear-at, clear-of}
 use Rattle.hash.proofs.Feeding.{Whole}
 

@@ -12,7 +12,7 @@ use Rattle.simd.specs.Message.{bitsOf, message, messageBlocks, lengthBlock}
 use Rattle.simd.specs.Hash.{chain, final, finalState, digest}
 use Rattle.laws.proofs.Table.{length-table}
 use Rattle.laws.proofs.Chain.{length-compression}
-use Rattle.hash.specs.Zero.{clear}
+use Rattle.tail.specs.Zero.{clear}
 use Rattle.hash.specs.Open.{limit}
 use Rattle.hash.proofs.Feeding.{at-widths}
 use Rattle.reader.specs.declared.Command.{Command}

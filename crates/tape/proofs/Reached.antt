@@ -14,7 +14,7 @@ use lib.ListN.{length, take}
 use Rattle.simd.specs.Basic.{isWidth}
 use Rattle.simd.specs.Message.{bitsOf, message}
 use Rattle.simd.specs.Hash.{digest}
-use Rattle.hash.specs.Zero.{clear}
+use Rattle.tail.specs.Zero.{clear}
 use Rattle.hash.specs.Open.{limit}
 use Rattle.hash.specs.declared.Hash.{Hash}
 use Rattle.text.specs.Text.{over}

@@ -9,7 +9,7 @@ use borrow.Author.Tests.{le-leb, lt-leb}
 use lib.Dec.{lit<}
 use lib.ListN.{length, drop, length-take, length-drop}
 use Rattle.simd.specs.Basic.{isWidth}
-use Rattle.hash.specs.Zero.{clear}
+use Rattle.tail.specs.Zero.{clear}
 use Rattle.hash.specs.Open.{openAnswer, feedAnswer, takeAnswer, takeRefusal, digestOf, written}
 use Rattle.hash.specs.declared.Hash.{Hash}
 use Rattle.hash.specs.declared.Opened.{Opened}

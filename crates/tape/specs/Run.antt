@@ -7,7 +7,7 @@ use lib.ListN.{length, take, drop}
 use Rattle.simd.specs.Basic.{isWidth}
 use Rattle.simd.specs.Message.{bitsOf, message}
 use Rattle.simd.specs.Hash.{digest}
-use Rattle.hash.specs.Zero.{clear}
+use Rattle.tail.specs.Zero.{clear}
 use Rattle.hash.specs.Open.{limit}
 use Rattle.reader.specs.declared.Command.{Command}
 use Rattle.reader.specs.declared.Command.the-variants.{Open, Full, Part, Take, Stop}

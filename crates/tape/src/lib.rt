@@ -2,7 +2,7 @@
 ghost use mathlib.Core.Path.{_≡_};
 ghost use Prim.Native.Nat.{_+_, _-_, _/_, _%_, _^_, _≤_, _<_};
 ghost use lib.ListN.{length};
-ghost use Rattle.hash.specs.Zero.{clear as clearOf};
+ghost use Rattle.tail.specs.Zero.{clear as clearOf};
 ghost use Rattle.text.specs.Text.{over};
 ghost use Rattle.reader.specs.Reading.{Inside};
 ghost use Rattle.reader.specs.declared.Command.the-variants.{Full, Part};

@@ -4,7 +4,7 @@ use Prim.Native.Nat.{ℕ}
 use native.Mathlib.Nat.{add-sub-cancel-left}
 use borrow.Author.Tests.{not-true, not-false}
 use lib.ListN.{take, drop}
-use Rattle.hash.specs.Zero.{clear}
+use Rattle.tail.specs.Zero.{clear}
 use Rattle.hash.specs.Open.{feedAnswer}
 use Rattle.reader.specs.declared.Command.the-variants.{Part}
 use Rattle.tape.specs.Run.{effect}
