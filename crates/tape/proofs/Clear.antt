@@ -10,7 +10,7 @@ use lib.Seq.{getD-take, take-all}
 use Rattle.simd.specs.Message.{bitsOf, message}
 use Rattle.laws.proofs.Bits.{length-bitsOf, getD-bitsOf}
 use Rattle.tail.specs.Zero.{clear}
-use Rattle.hash.proofs.Zeros.{clear-at, clear-of}
+use Rattle.tail.proofs.Zeros.{clear-at, clear-of}
 use Rattle.hash.proofs.Feeding.{Whole}
 
 -- Bit i of a byte string.
