@@ -1,0 +1,188 @@
+// The door for C: each call is total, returns the refusal's number or 0, and on a refusal leaves all that it was lent as it was.
+// include/simd.h is its manual. The hash travels as its stored form.
+ghost use mathlib.Core.Path.{_≡_};
+ghost use lib.ListN.{length};
+ghost use Rattle.hash.specs.Open.{takeAnswer, digestOf, written};
+ghost use Rattle.hash.specs.Form.{formOf, restoreAnswer};
+ghost use Rattle.comparison.specs.Answer.{answer};
+ghost use Rattle.expansion.specs.Call.{expandRefusal, expandOutput};
+ghost use Rattle.stepping.specs.Call.{stepsRefusal, stepsOutput, forward, backward};
+ghost use Rattle.tape.specs.Run.{ranOf, output};
+ghost use Rattle.text.specs.Text.{over};
+ghost use Rattle.simd_c.specs.Calls.{stored, openedHash, openCall, fedFrom, feedCall, takeCall, hashedFrom, hashCall, refusalOf, verdictAfter, blockAfter, runWithin, placed};
+use comparison::Verdict;
+use hash::Hash;
+
+#[no_mangle]
+pub extern "C" fn simd_open(width: u16, form: &mut [u8]) -> u8
+    ensures { λ r. ⌜ r ≡ openCall width (now (form .entry)) ⌝ }
+    ensures { λ r. ⌜ now (form .exit) ≡ written (openCall width (now (form .entry))) (formOf (openedHash width)) (now (form .entry)) ⌝ }
+{
+    let opened = Hash::open(width);
+    let refusal = opened.refusal;
+    if refusal != 0 {
+        return refusal;
+    }
+    let hash = opened.hash;
+    hash.store(form).refusal
+}
+
+#[no_mangle]
+pub extern "C" fn simd_feed(form: &mut [u8], piece: &[u8], bits: u64, blocks: &mut u64) -> u8
+    ensures { λ r. ⌜ r ≡ feedCall (now (form .entry)) (now (piece .entry)) bits ⌝ }
+    ensures { λ r. ⌜ now (form .exit) ≡ written (feedCall (now (form .entry)) (now (piece .entry)) bits)
+        (formOf (fedFrom (now (form .entry)) (now (piece .entry)) bits .hash)) (now (form .entry)) ⌝ }
+    ensures { λ r. ⌜ now (blocks .exit) ≡ stored (feedCall (now (form .entry)) (now (piece .entry)) bits)
+        (fedFrom (now (form .entry)) (now (piece .entry)) bits .blocks) (now (blocks .entry)) ⌝ }
+{
+    let opened = Hash::restore(form);
+    let refusal = opened.refusal;
+    if refusal != 0 {
+        return refusal;
+    }
+    let hash = opened.hash;
+    let fed = hash.feed(piece, bits as usize);
+    let refused = fed.refusal;
+    if refused != 0 {
+        return refused;
+    }
+    let next = fed.hash;
+    let full = next.store(form).refusal;
+    if full != 0 {
+        return full;
+    }
+    *blocks = fed.blocks as u64;
+    0
+}
+
+#[no_mangle]
+pub extern "C" fn simd_take(form: &[u8], out: &mut [u8], blocks: &mut u64) -> u8
+    ensures { λ r. ⌜ r ≡ takeCall (now (form .entry)) (now (out .entry)) ⌝ }
+    ensures { λ r. ⌜ now (out .exit) ≡ written (takeCall (now (form .entry)) (now (out .entry)))
+        (digestOf (restoreAnswer (now (form .entry)) .hash)) (now (out .entry)) ⌝ }
+    ensures { λ r. ⌜ now (blocks .exit) ≡ stored (takeCall (now (form .entry)) (now (out .entry)))
+        (takeAnswer (restoreAnswer (now (form .entry)) .hash) (now (out .entry)) .blocks) (now (blocks .entry)) ⌝ }
+{
+    let opened = Hash::restore(form);
+    let refusal = opened.refusal;
+    if refusal != 0 {
+        return refusal;
+    }
+    let hash = opened.hash;
+    let taken = hash.take(out);
+    let refused = taken.refusal;
+    if refused != 0 {
+        return refused;
+    }
+    *blocks = taken.blocks as u64;
+    0
+}
+
+#[no_mangle]
+pub extern "C" fn simd_hash(width: u16, message: &[u8], bits: u64, out: &mut [u8]) -> u8
+    ensures { λ r. ⌜ r ≡ hashCall width (now (message .entry)) bits (now (out .entry)) ⌝ }
+    ensures { λ r. ⌜ now (out .exit) ≡ written (hashCall width (now (message .entry)) bits (now (out .entry)))
+        (digestOf (hashedFrom width (now (message .entry)) bits .hash)) (now (out .entry)) ⌝ }
+{
+    let opened = Hash::open(width);
+    let refusal = opened.refusal;
+    if refusal != 0 {
+        return refusal;
+    }
+    let hash = opened.hash;
+    let fed = hash.feed(message, bits as usize);
+    let refused = fed.refusal;
+    if refused != 0 {
+        return refused;
+    }
+    let next = fed.hash;
+    next.take(out).refusal
+}
+
+#[no_mangle]
+pub extern "C" fn simd_expand(width: u16, last: bool, block: &[u8], out: &mut [u32]) -> u8
+    ensures { λ r. ⌜ r ≡ expandRefusal width (length (now (block .entry))) (length (now (out .entry))) ⌝ }
+    ensures { λ r. ⌜ now (out .exit) ≡ expandOutput width last (now (block .entry)) (now (out .entry)) ⌝ }
+{
+    expansion::expand(width, last, block, out)
+}
+
+#[no_mangle]
+pub extern "C" fn simd_steps(
+    width: u16,
+    last: bool,
+    state: &[u8],
+    block: &[u8],
+    out: &mut [u8],
+) -> u8
+    ensures { λ r. ⌜ r ≡ stepsRefusal width (length (now (state .entry))) (length (now (block .entry))) (length (now (out .entry))) ⌝ }
+    ensures { λ r. ⌜ now (out .exit) ≡ stepsOutput forward width last (now (state .entry)) (now (block .entry)) (now (out .entry)) ⌝ }
+{
+    stepping::run_steps(width, last, state, block, out)
+}
+
+#[no_mangle]
+pub extern "C" fn simd_unsteps(
+    width: u16,
+    last: bool,
+    state: &[u8],
+    block: &[u8],
+    out: &mut [u8],
+) -> u8
+    ensures { λ r. ⌜ r ≡ stepsRefusal width (length (now (state .entry))) (length (now (block .entry))) (length (now (out .entry))) ⌝ }
+    ensures { λ r. ⌜ now (out .exit) ≡ stepsOutput backward width last (now (state .entry)) (now (block .entry)) (now (out .entry)) ⌝ }
+{
+    stepping::run_unsteps(width, last, state, block, out)
+}
+
+#[no_mangle]
+pub extern "C" fn simd_compare(
+    width: u16,
+    a: &[u8],
+    a_bits: u64,
+    b: &[u8],
+    b_bits: u64,
+    verdict: &mut u64,
+    block: &mut u64,
+) -> u8
+    ensures { λ r. ⌜ r ≡ refusalOf (answer width (now (a .entry)) «a_bits» (now (b .entry)) «b_bits») ⌝ }
+    ensures { λ r. ⌜ now (verdict .exit) ≡ verdictAfter (answer width (now (a .entry)) «a_bits» (now (b .entry)) «b_bits») (now (verdict .entry)) ⌝ }
+    ensures { λ r. ⌜ now (block .exit) ≡ blockAfter (answer width (now (a .entry)) «a_bits» (now (b .entry)) «b_bits») (now (block .entry)) ⌝ }
+{
+    let found = comparison::compare(width, a, a_bits, b, b_bits);
+    match found {
+        Verdict::Same => {
+            *verdict = 0;
+            *block = 0;
+            0
+        }
+        Verdict::Apart => {
+            *verdict = 1;
+            *block = 0;
+            0
+        }
+        Verdict::Meet(k) => {
+            *verdict = 2;
+            *block = k;
+            0
+        }
+        Verdict::Refused(n) => n,
+    }
+}
+
+#[no_mangle]
+pub extern "C" fn simd_tape(tape: &[u8], out: &mut [u8], count: &mut u64, place: &mut u64) -> u8
+    ensures { λ r. ⌜ r ≡ ranOf (runWithin (now (tape .entry)) (now (out .entry))) .refusal ⌝ }
+    ensures { λ r. ⌜ now (out .exit) ≡ over (now (out .entry)) 0 (output (runWithin (now (tape .entry)) (now (out .entry)) .entries)) ⌝ }
+    ensures { λ r. ⌜ now (count .exit) ≡ ranOf (runWithin (now (tape .entry)) (now (out .entry))) .digests ⌝ }
+    ensures { λ r. ⌜ now (place .exit) ≡ placed (ranOf (runWithin (now (tape .entry)) (now (out .entry))) .refusal)
+        (ranOf (runWithin (now (tape .entry)) (now (out .entry))) .place) (now (place .entry)) ⌝ }
+{
+    let ran = tape::run(tape, out);
+    let refusal = ran.refusal;
+    *count = ran.digests as u64;
+    if refusal != 0 {
+        *place = ran.place as u64;
+    }
+    refusal
+}
