@@ -8,7 +8,7 @@ ghost use Rattle.simd.specs.Expansion.{added as addedTo, expanded};
 ghost use Rattle.transform_tables.specs.Roots.{Roots};
 ghost use Rattle.expansion.specs.Call.{sizeRefusal, expandRefusal, expandOutput};
 
-mod output;
+pub mod output;
 
 // Whether there is a digest of this width.
 pub fn is_width(width: u16) -> bool
@@ -27,7 +27,7 @@ pub fn is_width(width: u16) -> bool
 }
 
 // Why a block of so many bytes is not expanded into so many words, or 0.
-fn refusal(width: u16, bytes: usize, room: usize) -> u8
+pub fn refusal(width: u16, bytes: usize, room: usize) -> u8
     ensures { λ r. ⌜ r ≡ expandRefusal width bytes room ⌝ }
 {
     let known = is_width(width);
