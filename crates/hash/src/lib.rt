@@ -315,7 +315,7 @@ impl Hash {
     }
 
     // Feeds the first `count` bits of a piece. Refusals 5, 2, 3, 4.
-    pub fn feed(self, piece: &[u8], count: usize) -> Fed
+    pub fn feed(mut self, piece: &[u8], count: usize) -> Fed
         ensures { λ r. ⌜ r ≡ feedAnswer self (now (piece .entry)) count ⌝ }
     {
         let refusal = feed_refusal(self, piece, count);
@@ -339,14 +339,11 @@ impl Hash {
             &piece[0..bytes],
             count,
         );
-        let hash = Hash {
-            width,
-            bits: (bits as usize + count) as u32,
-            state,
-            tail,
-        };
+        self.bits = (bits as usize + count) as u32;
+        self.state = state;
+        self.tail = tail;
         Fed {
-            hash,
+            hash: self,
             blocks: full,
             refusal: 0,
         }

@@ -43,17 +43,17 @@ advance-requires c κs =
     ready (s .args .self) (s .args .piece .now) (s .args .count) facts (c .before .before .before .used-bits .result) (c .before .before .before .used-bits .ensures)
     (search needs) (search needs)
 
-cast-t13 : tie.Need-cast-t13
-cast-t13 c = search needs
+cast-self : tie.Need-cast-self
+cast-self c = search needs
 
-add-t18 : tie.Need-add-t18
-add-t18 c =
+add-self : tie.Need-add-self
+add-self c =
     let s = c .before .before .before .before .before .before .before .before .before .before .before in
     let facts = feed-facts (s .args .self) (s .args .piece .now) (s .args .count) (c .before .before .before .before .before .before .before .before .before .feed-refusal .result) (c .before .before .before .before .before .before .before .before .before .feed-refusal .ensures) (c .before .before .before .before .before .before .before .before .if1 .left) in
     omega (arith, facts .short)
 
-cast-t21 : tie.Need-cast-t21
-cast-t21 c =
+cast-self-2 : tie.Need-cast-self-2
+cast-self-2 c =
     let s = c .before .before .before .before .before .before .before .before .before .before .before in
     let facts = feed-facts (s .args .self) (s .args .piece .now) (s .args .count) (c .before .before .before .before .before .before .before .before .before .feed-refusal .result) (c .before .before .before .before .before .before .before .before .before .feed-refusal .ensures) (c .before .before .before .before .before .before .before .before .if1 .left) in
     omega (arith, facts .short)
@@ -81,7 +81,7 @@ feed-spec =
     part-advance-start
     part-advance-end
     advance-requires
-    cast-t13
-    add-t18
-    cast-t21
+    cast-self
+    add-self
+    cast-self-2
     returns-2)
