@@ -36,6 +36,7 @@ CALLS = {
 TRACE_CALLS = {
     "trace_transform": (WIDTH, FLAG, *SLICE, *SLICE),
     "trace_matrix": (WIDTH, FLAG, *SLICE, *SLICE),
+    "trace_steps": (WIDTH, FLAG, *SLICE, *SLICE, *SLICE),
 }
 
 
@@ -172,4 +173,9 @@ def trace_transform(width, last, block, out):
 
 def trace_matrix(width, last, block, out):
     refusal, data = call(trace.trace_matrix, width, last, const(block), words(out))
+    return refusal, values_of(data)
+
+
+def trace_steps(width, last, state, block, out):
+    refusal, data = call(trace.trace_steps, width, last, const(state), const(block), words(out))
     return refusal, values_of(data)

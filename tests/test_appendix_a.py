@@ -4,8 +4,8 @@
 The door gives the state before each block (I), the expanded rows (W), the
 state after the 32 steps (S 31), the same run back (X), the state after each
 message block (O) and the digests.  The test-only library `trace` gives the
-transform (y) and the matrix (Z).  The states between the steps are listed too;
-the product hands none of them out, and they are not compared here.
+transform (y), the matrix (Z) and the states after each single step (S 0 to
+S 35), of which the last is the state after the block (O).
 """
 
 import sys
@@ -61,9 +61,14 @@ class Door:
             product.trace_matrix(width, last, block, [0] * (32 * r)))))
         values.update(by_rows("W", width, accepted(
             product.expand(width, last, block, [0] * (32 * r)))))
+        words = accepted(product.trace_steps(width, last, state, block, [0] * (36 * 4 * r)))
+        states = [word_columns(width, words[4 * r * i:4 * r * (i + 1)]) for i in range(36)]
+        for i, columns in enumerate(states):
+            values.update(check.columns("S %d" % i, columns))
+        values.update(check.columns("O", states[35]))
         xored = bytes(s ^ b for s, b in zip(state, block))
         end = accepted(product.steps(width, last, xored, block, bytes(size)))
-        values.update(check.columns("S 31", byte_columns(width, end)))
+        assert byte_columns(width, end) == states[31], "the 32 steps end elsewhere"
         start = accepted(product.unsteps(width, last, end, block, bytes(size)))
         values.update(check.columns("X", byte_columns(width, start)))
         if last:
@@ -71,7 +76,7 @@ class Door:
         # Fed to a hash with this state and no tail, the block is compressed.
         empty = cls.empty(width)
         form = accepted(product.feed(empty[:6] + state + empty[6 + size:], block, 8 * size))
-        values.update(check.columns("O", byte_columns(width, form[6:6 + size])))
+        assert byte_columns(width, form[6:6 + size]) == states[35], "a feed ends elsewhere"
         return values, form[6:6 + size]
 
 

@@ -8,8 +8,8 @@ use lib.Dec.{eqb}
 use Rattle.simd.specs.Basic.{Family, familyOf, isWidth}
 use Rattle.simd.specs.Constants.{start}
 use Rattle.simd.specs.Message.{message}
+use Rattle.hash.specs.Open.{pieceRefusal}
 use Rattle.comparison.specs.Compared.{Found, found, compared}
-use Rattle.comparison.specs.Refusal.{messageRefusal}
 use Rattle.comparison.specs.Answer.{first, refusal, verdict, answer}
 use Rattle.comparison.specs.declared.Verdict.{Verdict}
 use Rattle.comparison.specs.declared.Verdict.the-variants.{Refused}
@@ -42,15 +42,15 @@ module _ (width : ℕ) (a : List ℕ) (na : ℕ) (b : List ℕ) (nb : ℕ) where
   answer-width e = rw e
 
   module _ (known : isWidth width ≡ true) where
-    pub answer-first : (r : ℕ) → r ≡ messageRefusal a na → (r ≡ 0 → ⊥) → Refused r ≡ answer width a na b nb
+    pub answer-first : (r : ℕ) → r ≡ pieceRefusal 0 a na → (r ≡ 0 → ⊥) → Refused r ≡ answer width a na b nb
     unfolding answer refusal first
     answer-first zero e h = absurd (h refl)
     answer-first (suc r) e h = refused (suc r) result h ∙ rw (known, ← e)
 
-    pub answer-second : (r : ℕ) → messageRefusal a na ≡ 0 → r ≡ messageRefusal b nb → (r ≡ 0 → ⊥) → Refused r ≡ answer width a na b nb
+    pub answer-second : (r : ℕ) → pieceRefusal 0 a na ≡ 0 → r ≡ pieceRefusal 0 b nb → (r ≡ 0 → ⊥) → Refused r ≡ answer width a na b nb
     unfolding answer refusal first
     answer-second r z e h = refused r result h ∙ rw (known, z, ← e)
 
-    pub answer-found : messageRefusal a na ≡ 0 → messageRefusal b nb ≡ 0 → verdict 0 result ≡ answer width a na b nb
+    pub answer-found : pieceRefusal 0 a na ≡ 0 → pieceRefusal 0 b nb ≡ 0 → verdict 0 result ≡ answer width a na b nb
     unfolding answer refusal first
     answer-found z e = rw (known, z, e)

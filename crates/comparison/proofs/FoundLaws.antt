@@ -10,11 +10,11 @@ use Rattle.simd.specs.Basic.{Family, isWidth}
 use lib.Dec.{eqb, eqb·suc-zero}
 use Rattle.simd.specs.Steps.{compression}
 use Rattle.simd.specs.Hash.{final, compressions}
+use Rattle.hash.specs.Open.{pieceRefusal}
 use Rattle.comparison.specs.Lists.{equal, least}
 use Rattle.comparison.specs.Pairs.{stateAt, blockAt, differAt}
 use Rattle.comparison.specs.Compared.{Found, same, apart, meet, common, found}
 use Rattle.comparison.specs.Answer.{first, refusal, verdict}
-use Rattle.comparison.specs.Refusal.{messageRefusal}
 use Rattle.comparison.specs.declared.Verdict.the-variants.{Same, Apart, Meet}
 use Rattle.comparison.proofs.ListLaws.{equal-true, same-equal, equal-false, not-equal, least-is}
 use Rattle.comparison.proofs.MessageLaws.{IsMessage}
@@ -157,6 +157,6 @@ unrefused-width true s e = e
 unrefused-width false s e = absurd (omega arith)
 
 pub unrefused : (width : ℕ) (a : List ℕ) (na : ℕ) (b : List ℕ) (nb : ℕ) → refusal width a na b nb ≡ 0
-    → (messageRefusal a na ≡ 0) × (messageRefusal b nb ≡ 0)
+    → (pieceRefusal 0 a na ≡ 0) × (pieceRefusal 0 b nb ≡ 0)
 unfolding refusal
-unrefused width a na b nb e = first-zero (messageRefusal a na) (messageRefusal b nb) (unrefused-width (isWidth width) _ e)
+unrefused width a na b nb e = first-zero (pieceRefusal 0 a na) (pieceRefusal 0 b nb) (unrefused-width (isWidth width) _ e)

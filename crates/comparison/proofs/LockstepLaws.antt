@@ -20,7 +20,7 @@ use Rattle.comparison.specs.Compared.{same, apart, meet, common, found}
 use Rattle.comparison.specs.Answer.{verdict}
 use Rattle.comparison.specs.Lockstep.{Turn, Passed, unlikeAt, withLength, judged}
 use Rattle.comparison.specs.declared.Verdict.the-variants.{Same, Apart, Meet}
-use Rattle.comparison.proofs.ListLaws.{same-equal, not-equal, decide, least-ext, least-none}
+use Rattle.comparison.proofs.ListLaws.{same-equal, not-equal, decide, least-is, least-ext, least-none}
 use Rattle.comparison.proofs.MessageLaws.{length-ext}
 use Rattle.comparison.proofs.ByteLaws.{length-message, is-message, same-bits, same-blocks, same-chain}
 use Rattle.comparison.proofs.RefusalLaws.{Accepted, used}
@@ -91,6 +91,12 @@ module _ {f : Family} {from a : List ℕ} {c : ℕ} {from′ b : List ℕ} {d n 
   passed-miss low hc hd p turn miss e =
       subst (λ (x : ℕ). Passed f from a c from′ b d n (k + 1) s′ t′ x) (ap (λ (q : Bool). cond q (n - k) met) miss ∙ sym e)
       (passed-more f from a c from′ b d n k low hc hd s t s′ t′ met r p turn)
+
+-- Every number so far is above the next one.
+pub passed-above : {f : Family} {from a : List ℕ} {c : ℕ} {from′ b : List ℕ} {d n k : ℕ} {s t : List ℕ} {met : ℕ} → k < n
+    → Passed f from a c from′ b d n k s t met → n - k < met
+passed-above {f} {from} {a} {c} {from′} {b} {d} {n} {k} low p =
+    omega (arith, p .number, least-is (unlikeAt f from a c from′ b d) k (suc n - k) .from)
 
 pub passed-all : {f : Family} {from a : List ℕ} {c : ℕ} {from′ b : List ℕ} {d n k : ℕ} {s t : List ℕ} {met : ℕ} → k ≡ n
     → Passed f from a c from′ b d n k s t met → Passed f from a c from′ b d n n s t met

@@ -1,6 +1,5 @@
 pub mod Lists
 pub mod Pairs
 pub mod Compared
-pub mod Refusal
 pub mod Answer
 pub mod Lockstep

@@ -7,16 +7,16 @@ ghost use lib.ListN.{length};
 ghost use Rattle.simd.specs.Basic.{large};
 ghost use Rattle.simd.specs.Message.{bitsOf, block as blockOf, message};
 ghost use Rattle.simd.specs.Hash.{chain};
+ghost use Rattle.hash.specs.Open.{pieceRefusal};
 ghost use Rattle.comparison.specs.Compared.{found};
-ghost use Rattle.comparison.specs.Refusal.{messageRefusal};
 ghost use Rattle.comparison.specs.Answer.{verdict};
 ghost use Rattle.comparison.specs.Lockstep.{zeros as zeroBytes, Tables, Turn, SideBySide, judged};
 use crate::Verdict;
-use crate::checks::used_part;
 use crate::pairs::copy;
 use crate::pairs::same_words;
 use crate::pairs::smaller;
 use crate::pairs::unlike;
+use crate::pairs::used_part;
 use crate::pairs::with_length;
 
 fn zeros() -> [u8; 128]
@@ -39,14 +39,21 @@ fn block(bytes: &[u8], k: usize) -> [u8; 128]
 }
 
 // Compresses the first blocks of a byte string.
-fn absorb_blocks(state: &mut [u32; 32], bytes: &[u8], count: usize, roots: &[u16], added: &[u16])
+fn absorb_blocks(
+    state: &mut [u32; 32],
+    bytes: &[u8],
+    count: usize,
+    roots: &[u16; 512],
+    added: &[u16; 256],
+    trail: &mut [[u32; 8]; 36],
+)
     requires { ⌜ (128 * count < length (now bytes) + 128) × Tables large (now roots) (now added) ⌝ }
     ensures { λ _. ⌜ now (state .exit) ≡ chain large (now (state .entry)) (bitsOf (now (bytes .entry))) count ⌝ }
 {
     let mut k = 0;
     while k < count {
         let x = block(bytes, k);
-        compression::large::compress(state, &x, roots, added, false);
+        compression::large::compress(state, &x, roots, added, false, trail);
         k += 1;
     }
 }
@@ -59,8 +66,9 @@ fn turn(
     t: &mut [u32; 32],
     b: &[u8],
     j: usize,
-    roots: &[u16],
-    added: &[u16],
+    roots: &[u16; 512],
+    added: &[u16; 256],
+    trail: &mut [[u32; 8]; 36],
 ) -> bool
     requires { ⌜ (128 * i ≤ length (now a)) × (128 * j ≤ length (now b)) × Tables large (now roots) (now added) ⌝ }
     ensures { λ r. ⌜ Turn large (now (s .entry)) (bitsOf (now (a .entry))) i (now (t .entry)) (bitsOf (now (b .entry))) j (now (s .exit)) (now (t .exit)) r ⌝ }
@@ -68,8 +76,8 @@ fn turn(
     let x = block(a, i);
     let y = block(b, j);
     let differ = unlike(s, &x, t, &y);
-    compression::large::compress(s, &x, roots, added, false);
-    compression::large::compress(t, &y, roots, added, false);
+    compression::large::compress(s, &x, roots, added, false, trail);
+    compression::large::compress(t, &y, roots, added, false, trail);
     differ
 }
 
@@ -83,8 +91,9 @@ fn lockstep(
     b: &[u8],
     d: usize,
     common: usize,
-    roots: &[u16],
-    added: &[u16],
+    roots: &[u16; 512],
+    added: &[u16; 256],
+    trail: &mut [[u32; 8]; 36],
 ) -> usize
     requires { ⌜ (128 * c < length (now a) + 128) × (128 * d < length (now b) + 128) × (common ≤ c) × (common ≤ d) × Tables large (now roots) (now added) ⌝ }
     ensures { λ r. ⌜ SideBySide large (now (s .entry)) (now (a .entry)) c (now (t .entry)) (now (b .entry)) d common common (now (s .exit)) (now (t .exit)) r ⌝ }
@@ -94,8 +103,11 @@ fn lockstep(
     while k < common {
         let i = c - common + k;
         let j = d - common + k;
-        if turn(s, a, i, t, b, j, roots, added) {
-            met = common - k;
+        let number = common - k;
+        if turn(s, a, i, t, b, j, roots, added, trail) {
+            if number < met {
+                met = number;
+            }
         }
         k += 1;
     }
@@ -121,7 +133,7 @@ fn judge(s: &mut [u32; 32], m: u64, t: &mut [u32; 32], n: u64, met: usize, none:
 
 // The comparison of two messages that break no rule.
 pub fn compare(start: [u32; 32], a: &[u8], m: u64, b: &[u8], n: u64) -> Verdict
-    requires { ⌜ (messageRefusal (now a) m ≡ 0) × (messageRefusal (now b) n ≡ 0) ⌝ }
+    requires { ⌜ (pieceRefusal 0 (now a) m ≡ 0) × (pieceRefusal 0 (now b) n ≡ 0) ⌝ }
     ensures { λ r. ⌜ r ≡ verdict 0 (found large start (message (now (a .entry)) m) (message (now (b .entry)) n)) ⌝ }
 {
     let x = used_part(a, m);
@@ -129,12 +141,25 @@ pub fn compare(start: [u32; 32], a: &[u8], m: u64, b: &[u8], n: u64) -> Verdict
     let c = (x.len() + 127) / 128;
     let d = (y.len() + 127) / 128;
     let common = smaller(c, d);
+    let none = common + 1;
     let mut s = start;
     let mut t = start;
     let roots = transform_tables::roots();
     let added = transform_tables::added_large(false);
-    absorb_blocks(&mut s, x, c - common, &roots, &added);
-    absorb_blocks(&mut t, y, d - common, &roots, &added);
-    let met = lockstep(&mut s, x, c, &mut t, y, d, common, &roots, &added);
-    judge(&mut s, m, &mut t, n, met, common + 1)
+    let mut trail = [[0u32; 8]; 36];
+    absorb_blocks(&mut s, x, c - common, &roots, &added, &mut trail);
+    absorb_blocks(&mut t, y, d - common, &roots, &added, &mut trail);
+    let met = lockstep(
+        &mut s,
+        x,
+        c,
+        &mut t,
+        y,
+        d,
+        common,
+        &roots,
+        &added,
+        &mut trail,
+    );
+    judge(&mut s, m, &mut t, n, met, none)
 }

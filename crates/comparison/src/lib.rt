@@ -3,7 +3,6 @@
 // The longer message first absorbs its extra leading blocks alone. From there on both have the same number, counted back from the length
 // block, and go on side by side: before each compression the pairs of state and block are compared, and the last number at which they
 // differ is kept.
-mod checks;
 mod large;
 mod pairs;
 mod small;
@@ -13,7 +12,7 @@ ghost use mathlib.Core.Path.{_≡_};
 ghost use Rattle.simd.specs.Basic.{isWidth};
 ghost use Rattle.simd.specs.Message.{message};
 ghost use Rattle.comparison.specs.Compared.{compared};
-ghost use Rattle.comparison.specs.Refusal.{messageRefusal};
+ghost use Rattle.hash.specs.Open.{pieceRefusal};
 ghost use Rattle.comparison.specs.Answer.{verdict, answer};
 
 pub enum Verdict {
@@ -25,7 +24,7 @@ pub enum Verdict {
 
 // The comparison at one of the four widths of two messages that break no rule.
 fn compare_width(width: u16, a: &[u8], m: u64, b: &[u8], n: u64) -> Verdict
-    requires { ⌜ (isWidth width ≡ true) × (messageRefusal (now a) m ≡ 0) × (messageRefusal (now b) n ≡ 0) ⌝ }
+    requires { ⌜ (isWidth width ≡ true) × (pieceRefusal 0 (now a) m ≡ 0) × (pieceRefusal 0 (now b) n ≡ 0) ⌝ }
     ensures { λ r. ⌜ r ≡ verdict 0 (compared width (message (now (a .entry)) m) (message (now (b .entry)) n)) ⌝ }
 {
     if width == 224 {
@@ -44,14 +43,14 @@ fn compare_width(width: u16, a: &[u8], m: u64, b: &[u8], n: u64) -> Verdict
 pub fn compare(width: u16, a: &[u8], a_bits: u64, b: &[u8], b_bits: u64) -> Verdict
     ensures { λ r. ⌜ r ≡ answer width (now (a .entry)) «a_bits» (now (b .entry)) «b_bits» ⌝ }
 {
-    if !checks::is_width(width) {
+    if !expansion::is_width(width) {
         return Verdict::Refused(1);
     }
-    let first = checks::refusal_of(a, a_bits);
+    let first = hash::piece_refusal(0, a, a_bits as usize);
     if first != 0 {
         return Verdict::Refused(first);
     }
-    let second = checks::refusal_of(b, b_bits);
+    let second = hash::piece_refusal(0, b, b_bits as usize);
     if second != 0 {
         return Verdict::Refused(second);
     }

@@ -1,8 +1,9 @@
 // Tests on pairs of state and block, and the bytes of a block: shared by both families.
 ghost use mathlib.Core.List.{_++_};
 ghost use mathlib.Core.Path.{_≡_};
-ghost use Prim.Native.Nat.{_≤_, min};
-ghost use lib.ListN.{length, drop};
+ghost use Prim.Native.Nat.{_+_, _/_, _≤_, min};
+ghost use lib.ListN.{length, take, drop};
+ghost use Rattle.hash.specs.Open.{pieceRefusal};
 ghost use Rattle.comparison.specs.Lists.{equal};
 ghost use Rattle.comparison.specs.Pairs.{unlike as unlikePairs};
 ghost use Rattle.comparison.specs.Lockstep.{withLength};
@@ -79,4 +80,13 @@ pub fn copy(bytes: &[u8], block: &mut [u8])
         block[i] = bytes[i];
         i += 1;
     }
+}
+
+// The bytes that a message uses.
+pub fn used_part(bytes: &[u8], count: u64) -> &[u8]
+    requires { ⌜ pieceRefusal 0 (now bytes) count ≡ 0 ⌝ }
+    ensures { λ r. ⌜ (now r ≡ take ((count + 7) / 8) (now (bytes .entry))) × (length (now r) ≡ (count + 7) / 8) ⌝ }
+{
+    let end = ((count + 7) / 8) as usize;
+    &bytes[..end]
 }

@@ -97,7 +97,7 @@ pub fn flat(s: [[u32; 8]; 4]) -> [u32; 32]
 }
 
 // Old state xor block.
-fn mixed(old: [u32; 32], block: &[u8]) -> [u32; 32]
+pub fn mixed(old: [u32; 32], block: &[u8]) -> [u32; 32]
     requires { ⌜ length (now block) ≡ 128 ⌝ }
     ensures { λ v. ⌜ v ≡ mixedOf large old (now (block .entry)) ⌝ }
 {
@@ -110,8 +110,16 @@ fn mixed(old: [u32; 32], block: &[u8]) -> [u32; 32]
     words
 }
 
-// The compression of one block. The tables are those of `transform_tables::roots` and `transform_tables::added_large`.
-pub fn compress(state: &mut [u32; 32], block: &[u8], roots: &[u16], added: &[u16], last: bool)
+// The compression of one block. The tables are those of `transform_tables::roots` and `transform_tables::added_large`. What the steps leave in
+// `trail` is of no use: it is lent from above so that their stores are not dropped.
+pub fn compress(
+    state: &mut [u32; 32],
+    block: &[u8],
+    roots: &[u16; 512],
+    added: &[u16; 256],
+    last: bool,
+    trail: &mut [[u32; 8]; 36],
+)
     requires { ⌜ (length (now block) ≡ 128) × Roots (now roots) ⌝ }
     requires { ⌜ now added ≡ table 256 (λ i. addedTo large last i % 257) ⌝ }
     ensures { λ _. ⌜ now (state .exit) ≡ compression large last (now (state .entry)) (now (block .entry)) ⌝ }
@@ -119,7 +127,7 @@ pub fn compress(state: &mut [u32; 32], block: &[u8], roots: &[u16], added: &[u16
     let old = *state;
     let w = expansion::expand_large(block, roots, added, last);
     let h = split(old);
-    let s = steps_large::steps(split(mixed(old, block)), &w);
-    let new = flat(steps_large::last_steps(s, &h));
+    let s = steps_large::steps(split(mixed(old, block)), &w, trail);
+    let new = flat(steps_large::last_steps(s, &h, trail));
     *state = new;
 }

@@ -18,13 +18,14 @@ pub fn absorb_small(state: &mut [u32; 16], bytes: &[u8])
     ensures { λ _. ⌜ now (state .exit) ≡ absorbed smallFamily (now (state .entry)) (now (bytes .entry)) (length (now (bytes .entry)) / 64) ⌝ }
 {
     let roots = transform_tables::roots();
+    let mut trail = [[0u32; 4]; 36];
     let added = transform_tables::added_small(false);
     let blocks = bytes.len() / 64;
     let mut k = 0;
     while k < blocks {
         let from = 64 * k;
         let to = from + 64;
-        small::compress(state, &bytes[from..to], &roots, &added, false);
+        small::compress(state, &bytes[from..to], &roots, &added, false, &mut trail);
         k += 1;
     }
 }
@@ -34,13 +35,14 @@ pub fn absorb_large(state: &mut [u32; 32], bytes: &[u8])
     ensures { λ _. ⌜ now (state .exit) ≡ absorbed largeFamily (now (state .entry)) (now (bytes .entry)) (length (now (bytes .entry)) / 128) ⌝ }
 {
     let roots = transform_tables::roots();
+    let mut trail = [[0u32; 8]; 36];
     let added = transform_tables::added_large(false);
     let blocks = bytes.len() / 128;
     let mut k = 0;
     while k < blocks {
         let from = 128 * k;
         let to = from + 128;
-        large::compress(state, &bytes[from..to], &roots, &added, false);
+        large::compress(state, &bytes[from..to], &roots, &added, false, &mut trail);
         k += 1;
     }
 }
@@ -50,9 +52,10 @@ pub fn finish_small(state: &mut [u32; 16], bits: u64)
     ensures { λ _. ⌜ now (state .exit) ≡ compression smallFamily true (now (state .entry)) (lengthBlock smallFamily bits) ⌝ }
 {
     let roots = transform_tables::roots();
+    let mut trail = [[0u32; 4]; 36];
     let added = transform_tables::added_small(true);
     let last = block::length_small(bits);
-    small::compress(state, &last, &roots, &added, true);
+    small::compress(state, &last, &roots, &added, true, &mut trail);
 }
 
 // Compresses the length block of so many bits.
@@ -60,9 +63,10 @@ pub fn finish_large(state: &mut [u32; 32], bits: u64)
     ensures { λ _. ⌜ now (state .exit) ≡ compression largeFamily true (now (state .entry)) (lengthBlock largeFamily bits) ⌝ }
 {
     let roots = transform_tables::roots();
+    let mut trail = [[0u32; 8]; 36];
     let added = transform_tables::added_large(true);
     let last = block::length_large(bits);
-    large::compress(state, &last, &roots, &added, true);
+    large::compress(state, &last, &roots, &added, true, &mut trail);
 }
 
 const START_224: [u32; 16] = [

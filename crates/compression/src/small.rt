@@ -45,7 +45,7 @@ pub fn flat(s: [[u32; 4]; 4]) -> [u32; 16]
 }
 
 // Old state xor block.
-fn mixed(old: [u32; 16], block: &[u8]) -> [u32; 16]
+pub fn mixed(old: [u32; 16], block: &[u8]) -> [u32; 16]
     requires { ⌜ length (now block) ≡ 64 ⌝ }
     ensures { λ v. ⌜ v ≡ mixedOf small old (now (block .entry)) ⌝ }
 {
@@ -58,8 +58,16 @@ fn mixed(old: [u32; 16], block: &[u8]) -> [u32; 16]
     words
 }
 
-// The compression of one block. The tables are those of `transform_tables::roots` and `transform_tables::added_small`.
-pub fn compress(state: &mut [u32; 16], block: &[u8], roots: &[u16], added: &[u16], last: bool)
+// The compression of one block. The tables are those of `transform_tables::roots` and `transform_tables::added_small`. What the steps leave in
+// `trail` is of no use: it is lent from above so that their stores are not dropped.
+pub fn compress(
+    state: &mut [u32; 16],
+    block: &[u8],
+    roots: &[u16; 512],
+    added: &[u16; 128],
+    last: bool,
+    trail: &mut [[u32; 4]; 36],
+)
     requires { ⌜ (length (now block) ≡ 64) × Roots (now roots) ⌝ }
     requires { ⌜ now added ≡ table 128 (λ i. addedTo small last i % 257) ⌝ }
     ensures { λ _. ⌜ now (state .exit) ≡ compression small last (now (state .entry)) (now (block .entry)) ⌝ }
@@ -67,7 +75,7 @@ pub fn compress(state: &mut [u32; 16], block: &[u8], roots: &[u16], added: &[u16
     let old = *state;
     let w = expansion::expand_small(block, roots, added, last);
     let h = split(old);
-    let s = steps_small::steps(split(mixed(old, block)), &w);
-    let new = flat(steps_small::last_steps(s, &h));
+    let s = steps_small::steps(split(mixed(old, block)), &w, trail);
+    let new = flat(steps_small::last_steps(s, &h, trail));
     *state = new;
 }

@@ -54,7 +54,12 @@ fn size_refusal(block: usize, words: usize, bytes: usize, room: usize) -> u8
 }
 
 // The expanded block. The tables are those of `transform_tables::roots` and `transform_tables::added_small`.
-pub fn expand_small(block: &[u8], roots: &[u16], added: &[u16], last: bool) -> [[u32; 4]; 32]
+pub fn expand_small(
+    block: &[u8],
+    roots: &[u16; 512],
+    added: &[u16; 128],
+    last: bool,
+) -> [[u32; 4]; 32]
     requires { ⌜ (length (now block) ≡ 64) × Roots (now roots) ⌝ }
     requires { ⌜ now added ≡ table 128 (λ i. addedTo small last i % 257) ⌝ }
     ensures { λ r. ⌜ r ≡ expanded small last (now (block .entry)) ⌝ }
@@ -76,7 +81,12 @@ fn write_small(last: bool, block: &[u8], out: &mut [u32])
 }
 
 // The expanded block. The tables are those of `transform_tables::roots` and `transform_tables::added_large`.
-pub fn expand_large(block: &[u8], roots: &[u16], added: &[u16], last: bool) -> [[u32; 8]; 32]
+pub fn expand_large(
+    block: &[u8],
+    roots: &[u16; 512],
+    added: &[u16; 256],
+    last: bool,
+) -> [[u32; 8]; 32]
     requires { ⌜ (length (now block) ≡ 128) × Roots (now roots) ⌝ }
     requires { ⌜ now added ≡ table 256 (λ i. addedTo large last i % 257) ⌝ }
     ensures { λ r. ⌜ r ≡ expanded large last (now (block .entry)) ⌝ }

@@ -7,7 +7,7 @@ ghost use lib.Seq.{paste};
 ghost use Rattle.expansion.specs.Output.{IsRows};
 
 // One row, from place at on.
-fn put_row(row: &[u32], at: usize, out: &mut [u32])
+pub fn put_row(row: &[u32], at: usize, out: &mut [u32])
     requires { ⌜ at + length (now row) ≤ length (now out) ⌝ }
     ensures { λ _. ⌜ now (out .exit) ≡ paste (now (out .entry)) at (now (row .entry)) (length (now (row .entry))) ⌝ }
 {

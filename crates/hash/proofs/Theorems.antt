@@ -63,7 +63,7 @@ none-used large = refl
 no-bit : Bits []
 no-bit i = omega arith
 
-length-bytesOf : (words : List ℕ) → length (bytesOf words) ≡ 4 * length words
+pub length-bytesOf : (words : List ℕ) → length (bytesOf words) ≡ 4 * length words
 unfolding bytesOf
 length-bytesOf words = length-table (4 * length words) _
 
@@ -152,27 +152,23 @@ pub open-known : (width : ℕ) → isWidth width ≡ true → openAnswer width �
 unfolding openAnswer openRefusal opened
 open-known width known = rw known
 
-module _ (width : ℕ) (known : isWidth width ≡ true) where
-  first : Hash
-  first = holding width 0 (start width) []
+abbrev pub first : ℕ → Hash
+first width = holding width 0 (start width) []
 
+module _ (width : ℕ) (known : isWidth width ≡ true) where
   none-left : length {A = ℕ} [] ≡ 0 % blockBits (familyOf width)
   none-left = none-used (familyOf width)
 
-  first-sized : Sized first
-  unfolding first
+  pub first-sized : Sized (first width)
   first-sized = held-sized width 0 (start width) [] no-bit
 
-  first-legal : legal first ≡ true
-  unfolding first
+  pub first-legal : legal (first width) ≡ true
   first-legal = held-legal width 0 (start width) [] (start-length width known) none-left no-bit known
 
-  first-state : reached first ≡ start width
-  unfolding first
+  first-state : reached (first width) ≡ start width
   first-state = held-state width 0 (start width) [] (start-length width known) none-left no-bit
 
-  first-tail : pending first ≡ []
-  unfolding first
+  first-tail : pending (first width) ≡ []
   first-tail = held-tail width 0 (start width) [] (start-length width known) none-left no-bit
 
 -- A take hands the hash back as it was. It compresses two blocks exactly where the tail holds a bit, and otherwise one.
@@ -240,55 +236,59 @@ pub record Hashed (width : ℕ) (m : List ℕ) (a : Fed) (out : List ℕ) : Type
   pub bytes : written (takeRefusal (a .hash) out) (digestOf (a .hash)) out ≡ digest width m ++ drop (width / 8) out
   pub blocks : a .blocks + takeAnswer (a .hash) out .blocks ≡ compressions (familyOf width) (length m)
 
-module _ (width : ℕ) (known : isWidth width ≡ true) (m : List ℕ) (bit : Bits m) (out : List ℕ) (room : width / 8 ≤ length out) where
-  after : Hash
-  after = advanced (first width known) m
+-- That hash after bits were fed.
+module _ (width : ℕ) (known : isWidth width ≡ true) (m : List ℕ) (bit : Bits m) where
+  abbrev after : Hash
+  after = advanced (first width) m
 
-  after-width : after .width ≡ width
-  unfolding after advanced holding first
+  pub after-width : advanced (first width) m .width ≡ width
+  unfolding advanced holding
   after-width = refl
 
-  after-legal : legal after ≡ true
-  unfolding after
-  after-legal = advanced-legal (first width known) (first-sized width known) m bit (first-legal width known)
+  pub after-bits : advanced (first width) m .bits ≡ length m
+  unfolding advanced holding
+  after-bits = zero-add (length m)
+
+  pub after-legal : legal (advanced (first width) m) ≡ true
+  after-legal = advanced-legal (first width) (first-sized width known) m bit (first-legal width known)
 
   after-final : finalOf after ≡ finalState width m
-  unfolding after finalState final first holding
+  unfolding finalState final holding
   after-final =
-      let f = familyOf width in
-      final-advanced (first width known) (first-sized width known) m bit
+      final-advanced (first width) (first-sized width known) m bit
       ∙ rw (first-state width known, first-tail width known, zero-add (length m))
 
-  after-digest : digestOf after ≡ digest width m
+  pub after-digest : digestOf (advanced (first width) m) ≡ digest width m
   unfolding digestOf digest
   after-digest = λ i. take (after-width i / 8) (bytesOf (after-final i))
 
-  after-blocks : fullBlocks (first width known) (length m) + compressions (family after) (used after) ≡ compressions (familyOf width) (length m)
-  unfolding after advanced holding first compressions
+  after-blocks : fullBlocks (first width) (length m) + compressions (family after) (used after) ≡ compressions (familyOf width) (length m)
+  unfolding advanced holding compressions
   after-blocks =
-      let count = message-blocks (first width known) (first-sized width known) m in
+      let count = message-blocks (first width) (first-sized width known) m in
       let alone = rw (first-tail width known) at count in
       omega (arith, alone)
 
-  after-hashed : Hashed width m (record { hash = after; blocks = fullBlocks (first width known) (length m); refusal = 0 }) out
-  unfolding written
-  after-hashed =
-      let fits : after .width / 8 ≤ length out = rw after-width room in
-      let size : length (digestOf after) ≡ width / 8 = digest-length after after-legal ∙ ap (λ (w : ℕ). w / 8) after-width in
-      record {
-        accepted = refl;
-        answered = rw (take-whole after out after-legal fits);
-        bytes =
-            ap (λ (r : ℕ). written r (digestOf after) out) (take-accepted after out after-legal fits)
-            ∙ λ i. after-digest i ++ drop (size i) out;
-        blocks = rw (take-whole after out after-legal fits) after-blocks;
-      }
+  module _ (out : List ℕ) (room : width / 8 ≤ length out) where
+    after-hashed : Hashed width m (record { hash = after; blocks = fullBlocks (first width) (length m); refusal = 0 }) out
+    unfolding written
+    after-hashed =
+        let fits : after .width / 8 ≤ length out = rw after-width room in
+        let size : length (digestOf after) ≡ width / 8 = digest-length after after-legal ∙ ap (λ (w : ℕ). w / 8) after-width in
+        record {
+          accepted = refl;
+          answered = rw (take-whole after out after-legal fits);
+          bytes =
+              ap (λ (r : ℕ). written r (digestOf after) out) (take-accepted after out after-legal fits)
+              ∙ λ i. after-digest i ++ drop (size i) out;
+          blocks = rw (take-whole after out after-legal fits) after-blocks;
+        }
 
 pub cutting : (width : ℕ) → isWidth width ≡ true → (ps : List Piece) → Wholes ps → length (joined ps) ≤ limit
     → (out : List ℕ) → width / 8 ≤ length out → Hashed width (joined ps) (feedAll (openAnswer width .hash) ps) out
-unfolding first after holding
+unfolding holding
 cutting width known ps whole short out room =
-    let all = feed-all (first width known) (first-sized width known) (first-legal width known) ps whole (omega arith) in
+    let all = feed-all (first width) (first-sized width known) (first-legal width known) ps whole (omega arith) in
     rw (open-known width known, all) (after-hashed width known (joined ps) (bits-joined ps) out room)
 
 opened-refusal : (r : ℕ) (h : Hash) → opened r h .refusal ≡ r

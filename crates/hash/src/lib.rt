@@ -6,7 +6,7 @@ ghost use mathlib.Core.Path.{_≡_};
 ghost use mathlib.Core.List.{[], _++_};
 ghost use Prim.Native.Nat.{_+_, _*_, _≤_};
 ghost use lib.ListN.{length, take, drop};
-ghost use Rattle.simd.specs.Basic.{isWidth, bytesOf, wordsOf, table};
+ghost use Rattle.simd.specs.Basic.{bytesOf, wordsOf, table};
 ghost use Rattle.simd.specs.Constants.{start};
 ghost use Rattle.simd.specs.Message.{byteOf};
 ghost use Rattle.tail.specs.Zero.{padded};
@@ -47,22 +47,6 @@ pub struct Stored {
     pub refusal: u8,
 }
 
-// Whether a width is one of the four.
-fn is_width(width: u16) -> bool
-    ensures { λ r. ⌜ r ≡ isWidth width ⌝ }
-{
-    if width == 224 {
-        return true;
-    }
-    if width == 256 {
-        return true;
-    }
-    if width == 384 {
-        return true;
-    }
-    width == 512
-}
-
 // Whether a hash is one of the four widths with no bit set past the family's state, block or tail.
 fn is_legal(hash: Hash) -> bool
     ensures { λ r. ⌜ r ≡ legal hash ⌝ }
@@ -71,7 +55,7 @@ fn is_legal(hash: Hash) -> bool
     let bits = hash.bits;
     let state = hash.state;
     let tail = hash.tail;
-    if !is_width(width) {
+    if !expansion::is_width(width) {
         return false;
     }
     if !tail::words_zero(&state, tail::block_bytes(width) / 4) {
@@ -277,7 +261,7 @@ fn restore_refusal(form: &[u8]) -> u8
         return 8;
     }
     let width = read_width(form);
-    if !is_width(width) {
+    if !expansion::is_width(width) {
         return 1;
     }
     let middle = 6 + tail::block_bytes(width);
@@ -299,7 +283,7 @@ impl Hash {
     pub fn open(width: u16) -> Opened
         ensures { λ r. ⌜ r ≡ openAnswer width ⌝ }
     {
-        if is_width(width) {
+        if expansion::is_width(width) {
             let state = start_state(width);
             let tail = no_tail();
             let hash = Hash {

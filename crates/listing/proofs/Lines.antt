@@ -5,26 +5,21 @@ use mathlib.Core.Path.{_≡_, refl, sym, ap, _∙_, subst}
 use Prim.Native.Nat.{ℕ, _+_, _-_, _/_, _≤_, _<_}
 use native.Mathlib.Omega.{arith}
 use borrow.Author.Tests.{le-leb, lt-leb}
-use lib.Dec.{T, lit≤}
+use lib.Dec.{T}
 use native.Mathlib.Decide.{decLe}
 use lib.ListN.{length, take, drop, length-append, length-drop}
 use lib.Seq.{take-at}
 use Rattle.simd.specs.Basic.{isWidth}
 use Rattle.simd.specs.Hash.{digest}
-use Rattle.hash.proofs.Feeding.{at-widths}
 use Rattle.text.specs.Text.{over, digestLine}
 use Rattle.text.proofs.Over.{length-over}
 use Rattle.tape.specs.Run.{closed, Entry, Run, ended, first, runFrom, within, nextOf, firstOutput, output}
 use Rattle.tape.specs.declared.Next.the-variants.{Taken, Ended}
-use Rattle.tape.proofs.Entries.{First, none, some, run-first, length-digest}
+use Rattle.tape.proofs.Entries.{First, none, some, run-first, length-digest, fits-64}
 use Rattle.tape.proofs.Done.{within-ended, within-fits}
 use Rattle.listing.specs.Listing.{sealed, firstLine, linesBy, lines, lineBy, lineOf, textOf}
 use Rattle.listing.specs.Ending.{endText, endLine}
 use Rattle.listing.specs.declared.Line.{Line}
-
--- Any digest fits 64 bytes.
-fits-64 : (width : ℕ) → isWidth width ≡ true → (width / 8 ≤ 64) × (4 ≤ width / 8)
-fits-64 = at-widths (λ (w : ℕ). (w / 8 ≤ 64) × (4 ≤ w / 8)) (lit≤ tt, lit≤ tt) (lit≤ tt, lit≤ tt) (lit≤ tt, lit≤ tt) (lit≤ tt, lit≤ tt)
 
 -- What the step to the next digest, with 64 bytes of room, says of the run.
 pub record Took (tape : List ℕ) (at width next : ℕ) : Type 0 where

@@ -31,7 +31,7 @@ pub fn next_line(tape: &[u8], at: usize, count: u32, text: &mut [u8]) -> Line
     if 65536 < tape.len() {
         return last(Next::Ended(13, 65536), count, text);
     }
-    let mut digest = blank();
+    let mut digest = tape::blank();
     let found = tape::advance(tape, at, &mut digest);
     let Next::Taken(width, next) = found else {
         return last(found, count, text);
@@ -78,13 +78,6 @@ fn ending(number: u8, place: usize, count: u32, text: &mut [u8]) -> usize
         return text::done_line(text, count as usize);
     }
     text::refused_line(text, number, place)
-}
-
-// Room for a digest.
-fn blank() -> [u8; 64]
-    ensures { λ r. ⌜ 64 ≡ length r ⌝ }
-{
-    [0; 64]
 }
 
 fn wide(x: u16) -> usize

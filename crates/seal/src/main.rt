@@ -3,6 +3,7 @@
 ghost use mathlib.Core.Path.{_≡_};
 ghost use Prim.Native.Nat.{_≤_};
 ghost use lib.ListN.{length};
+ghost use Rattle.listing.specs.Listing.{sealed, firstLine};
 ghost use Rattle.seal.specs.Input.{Within};
 use libc::STDIN_FILENO;
 use libc::STDOUT_FILENO;
@@ -20,10 +21,11 @@ fn room() -> [u8; 65537]
     [0; 65537]
 }
 
-fn page() -> [u8; 8192]
-    ensures { λ r. ⌜ 8192 ≡ length r ⌝ }
+// The longest line has fewer bytes.
+fn line_room() -> [u8; 192]
+    ensures { λ r. ⌜ 192 ≡ length r ⌝ }
 {
-    [0; 8192]
+    [0; 192]
 }
 
 // Reads until the tape's room is full, the input ends or a read fails.
@@ -45,36 +47,34 @@ fn read_tape(tape: &mut [u8]) -> Input
     Input::Bytes(size)
 }
 
-fn write(text: &[u8]) -> bool {
-    let written = io::write_all(STDOUT_FILENO, text);
+// Writes a line of the tape's listing. Tape, place and count say which: the one from this place, after so many digests.
+fn write(tape: &[u8], at: usize, count: u32, line: &[u8]) -> bool
+    requires { ⌜ now line ≡ firstLine count (sealed (now tape) at) ⌝ }
+{
+    let written = io::write_all(STDOUT_FILENO, line);
     if !written {
         os::fail(b"seal: standard output");
     }
     written
 }
 
-// Prints the listing. Lines are gathered in the text, which has room for some dozens.
+// Prints the listing, each line as its TAKE is met. A write that fails ends it.
 fn print(tape: &[u8], text: &mut [u8])
-    requires { ⌜ (length (now tape) ≤ 65537) × (length (now text) ≡ 8192) ⌝ }
+    requires { ⌜ (length (now tape) ≤ 65537) × (length (now text) ≡ 192) ⌝ }
 {
-    let mut used = 0;
     let mut at = 0;
     let mut count: u32 = 0;
     loop {
-        let line = listing::next_line(tape, at, count, &mut text[used..]);
-        used += line.length;
+        let line = listing::next_line(tape, at, count, text);
+        let end = line.length;
+        if !write(tape, at, count, &text[..end]) {
+            return;
+        }
         if !line.more {
-            write(&text[..used]);
             return;
         }
         at = line.next;
         count += 1;
-        if 8000 < used {
-            if !write(&text[..used]) {
-                return;
-            }
-            used = 0;
-        }
     }
 }
 
@@ -85,6 +85,6 @@ fn main() {
         os::fail(b"seal: standard input");
         return;
     };
-    let mut text = page();
+    let mut text = line_room();
     print(&tape[..size], &mut text);
 }

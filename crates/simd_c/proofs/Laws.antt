@@ -1,7 +1,8 @@
 -- A first refusal hides a second one, and a refusal leaves what was lent.
-use mathlib.Core.List.{List}
+use mathlib.Core.List.{List, _++_}
 use mathlib.Core.Path.{_≡_, refl, ap}
 use Prim.Native.Nat.{ℕ, zero, suc}
+use lib.ListN.{length, drop}
 use Rattle.hash.specs.Open.{written}
 use Rattle.simd_c.specs.Calls.{first, stored, placed}
 
@@ -18,6 +19,10 @@ pub written-refused : (r : ℕ) (bytes out : List ℕ) → (r ≡ 0 → ⊥) →
 unfolding written
 written-refused zero bytes out some = absurd (some refl)
 written-refused (suc n) bytes out some = refl
+
+pub written-accepted : (r : ℕ) (bytes out : List ℕ) → r ≡ 0 → written r bytes out ≡ bytes ++ drop (length bytes) out
+unfolding written
+written-accepted r bytes out none = ap (λ n. written n bytes out) none
 
 pub stored-refused : (r new old : ℕ) → (r ≡ 0 → ⊥) → stored r new old ≡ old
 unfolding stored

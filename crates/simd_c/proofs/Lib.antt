@@ -1,2 +1,5 @@
 pub mod Laws
+pub mod Fitting
+pub mod Opening
 pub mod Answers
+pub mod Theorems

@@ -1,8 +1,11 @@
 -- What the calls of the C door answer, and what they leave behind in what they were lent, over the definitions of the crates below.
+use mathlib.Core.Bool.{cond}
 use mathlib.Core.List.{List}
-use Prim.Native.Nat.{ℕ, zero, suc}
+use Prim.Native.Nat.{ℕ, zero, suc, _/_}
+use lib.Dec.{leb}
 use lib.ListN.{length}
-use Rattle.hash.specs.Open.{openAnswer, feedAnswer, takeAnswer}
+use Rattle.simd.specs.Basic.{isWidth}
+use Rattle.hash.specs.Open.{openAnswer, pieceRefusal, feedAnswer, takeAnswer}
 use Rattle.hash.specs.Form.{storeAnswer, restoreAnswer}
 use Rattle.hash.specs.declared.Hash.{Hash}
 use Rattle.hash.specs.declared.Fed.{Fed}
@@ -40,14 +43,9 @@ feedCall form piece bits =
 unfoldable pub takeCall : List ℕ → List ℕ → ℕ
 takeCall form out = first (restoreAnswer form .refusal) (takeAnswer (restoreAnswer form .hash) out .refusal)
 
--- simd_hash: a hash is opened, fed the message and taken.
-unfoldable pub hashedFrom : ℕ → List ℕ → ℕ → Fed
-hashedFrom width bytes bits = feedAnswer (openedHash width) bytes bits
-
-unfoldable pub hashCall : ℕ → List ℕ → ℕ → List ℕ → ℕ
-hashCall width bytes bits out =
-    first (openAnswer width .refusal)
-    (first (hashedFrom width bytes bits .refusal) (takeAnswer (hashedFrom width bytes bits .hash) out .refusal))
+-- simd_hash: 1 for an unknown width, then 2, 3 or 4 for the message as for a piece after no bits, then 6 for too short an output.
+unfoldable pub hashRefusal : ℕ → List ℕ → ℕ → ℕ → ℕ
+hashRefusal width bytes bits room = cond (isWidth width) (first (pieceRefusal 0 bytes bits) (cond (leb (width / 8) room) 0 6)) 1
 
 -- simd_compare: the answer's refusal, its verdict (0 Same, 1 Apart, 2 Meet) and the number of the block where two messages meet.
 unfoldable pub refusalOf : Verdict → ℕ

@@ -2,6 +2,8 @@
 // include/simd.h is its manual. The hash travels as its stored form.
 ghost use mathlib.Core.Path.{_≡_};
 ghost use lib.ListN.{length};
+ghost use Rattle.simd.specs.Message.{message as messageOf};
+ghost use Rattle.simd.specs.Hash.{digest};
 ghost use Rattle.hash.specs.Open.{takeAnswer, digestOf, written};
 ghost use Rattle.hash.specs.Form.{formOf, restoreAnswer};
 ghost use Rattle.comparison.specs.Answer.{answer};
@@ -9,7 +11,7 @@ ghost use Rattle.expansion.specs.Call.{expandRefusal, expandOutput};
 ghost use Rattle.stepping.specs.Call.{stepsRefusal, stepsOutput, forward, backward};
 ghost use Rattle.tape.specs.Run.{ranOf, output};
 ghost use Rattle.text.specs.Text.{over};
-ghost use Rattle.simd_c.specs.Calls.{stored, openedHash, openCall, fedFrom, feedCall, takeCall, hashedFrom, hashCall, refusalOf, verdictAfter, blockAfter, runWithin, placed};
+ghost use Rattle.simd_c.specs.Calls.{stored, openedHash, openCall, fedFrom, feedCall, takeCall, hashRefusal, refusalOf, verdictAfter, blockAfter, runWithin, placed};
 use comparison::Verdict;
 use hash::Hash;
 
@@ -80,9 +82,9 @@ pub extern "C" fn simd_take(form: &[u8], out: &mut [u8], blocks: &mut u64) -> u8
 
 #[no_mangle]
 pub extern "C" fn simd_hash(width: u16, message: &[u8], bits: u64, out: &mut [u8]) -> u8
-    ensures { λ r. ⌜ r ≡ hashCall width (now (message .entry)) bits (now (out .entry)) ⌝ }
-    ensures { λ r. ⌜ now (out .exit) ≡ written (hashCall width (now (message .entry)) bits (now (out .entry)))
-        (digestOf (hashedFrom width (now (message .entry)) bits .hash)) (now (out .entry)) ⌝ }
+    ensures { λ r. ⌜ r ≡ hashRefusal width (now (message .entry)) bits (length (now (out .entry))) ⌝ }
+    ensures { λ r. ⌜ now (out .exit) ≡ written (hashRefusal width (now (message .entry)) bits (length (now (out .entry))))
+        (digest width (messageOf (now (message .entry)) bits)) (now (out .entry)) ⌝ }
 {
     let opened = Hash::open(width);
     let refusal = opened.refusal;

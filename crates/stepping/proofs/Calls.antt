@@ -21,7 +21,7 @@ use Rattle.compression.proofs.Laws.{Sized, flat-words}
 use Rattle.stepping.specs.Call.{sizeRefusal, stepsRefusal, forward, backward, stepsOutput}
 
 -- Steps and steps backward keep R words to a column.
-state-sized : (f : Family) (l : List ℕ) → length l ≡ stateWords f → Sized f (state f l)
+pub state-sized : (f : Family) (l : List ℕ) → length l ≡ stateWords f → Sized f (state f l)
 unfolding state
 state-sized small l size =
     record {
@@ -38,7 +38,7 @@ state-sized large l size =
       d-size = simp (length-take, length-drop) (omega arith);
     }
 
-steps-sized : (f : Family) (w : List (List ℕ)) (n : ℕ) (s : State) → Sized f s → Sized f (steps f w n s)
+pub steps-sized : (f : Family) (w : List (List ℕ)) (n : ℕ) (s : State) → Sized f s → Sized f (steps f w n s)
 unfolding steps step
 steps-sized f w zero s sized = sized
 steps-sized f w (suc i) s sized =
@@ -100,7 +100,11 @@ taken : (k : Bool) (a n : ℕ) → cond k a (suc n) ≡ 0 → (k ≡ true) × (a
 taken true a n e = (refl, e)
 taken false a n e = absurd (omega arith)
 
--- Where nothing is refused, state, block and output have their sizes.
+-- Where nothing is refused, the width is known, and state, block and output have their sizes.
+pub width-known : (w s b room : ℕ) → stepsRefusal w s b room ≡ 0 → isWidth w ≡ true
+unfolding stepsRefusal
+width-known w s b room allowed = taken (isWidth w) (sizeRefusal (blockBytes (familyOf w)) s b room) 0 allowed .0
+
 pub sizes : (w s b room : ℕ) (f : Family) → familyOf w ≡ f → stepsRefusal w s b room ≡ 0 → (s ≡ blockBytes f) × ((b ≡ blockBytes f) × (blockBytes f ≤ room))
 unfolding stepsRefusal sizeRefusal
 sizes w s b room f is allowed =

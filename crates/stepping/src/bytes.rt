@@ -24,7 +24,7 @@ fn byte(x: u32, k: usize) -> u8
 }
 
 // Reads as many words as are lent.
-pub(crate) fn read(words: &mut [u32], bytes: &[u8])
+pub fn read(words: &mut [u32], bytes: &[u8])
     requires { ⌜ 4 * length (now words) ≤ length (now bytes) ⌝ }
     ensures { λ _. ⌜ now (words .exit) ≡ wordsOf (length (now (words .entry))) (now (bytes .entry)) ⌝ }
 {

@@ -7,10 +7,10 @@ ghost use lib.ListN.{length, drop};
 ghost use Rattle.simd.specs.Basic.{small, large};
 ghost use Rattle.stepping.specs.Call.{sizeRefusal, stepsRefusal, forward, backward, stepsOutput};
 
-mod bytes;
+pub mod bytes;
 
 // Why a call is refused, or 0.
-fn refusal(width: u16, state: usize, block: usize, room: usize) -> u8
+pub fn refusal(width: u16, state: usize, block: usize, room: usize) -> u8
     ensures { λ r. ⌜ r ≡ stepsRefusal width state block room ⌝ }
 {
     let known = expansion::is_width(width);
@@ -48,7 +48,12 @@ fn forward_small(last: bool, state: &[u8], block: &[u8], out: &mut [u8])
     let w = expansion::expand_small(block, &roots, &added, last);
     let mut x = [0u32; 16];
     bytes::read(&mut x, state);
-    let y = compression::small::flat(steps_small::steps(compression::small::split(x), &w));
+    let mut trail = [[0u32; 4]; 36];
+    let y = compression::small::flat(steps_small::steps(
+        compression::small::split(x),
+        &w,
+        &mut trail,
+    ));
     bytes::write(&y, out);
 }
 
@@ -61,7 +66,12 @@ fn forward_large(last: bool, state: &[u8], block: &[u8], out: &mut [u8])
     let w = expansion::expand_large(block, &roots, &added, last);
     let mut x = [0u32; 32];
     bytes::read(&mut x, state);
-    let y = compression::large::flat(steps_large::steps(compression::large::split(x), &w));
+    let mut trail = [[0u32; 8]; 36];
+    let y = compression::large::flat(steps_large::steps(
+        compression::large::split(x),
+        &w,
+        &mut trail,
+    ));
     bytes::write(&y, out);
 }
 

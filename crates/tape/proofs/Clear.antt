@@ -1,8 +1,8 @@
 -- Laws of bytes whose bits are 0 from a place on.
-use mathlib.Core.Bool.{Bool, true, false}
+use mathlib.Core.Bool.{true}
 use mathlib.Core.List.{List}
-use mathlib.Core.Path.{_≡_, refl, sym, ap, _∙_}
-use Prim.Native.Nat.{ℕ, _+_, _*_, _-_, _/_, _%_, _^_, _≤_, _<_}
+use mathlib.Core.Path.{_≡_, sym, ap, _∙_}
+use Prim.Native.Nat.{ℕ, _+_, _*_, _-_, _/_, _%_, _^_, _≤_}
 use native.Mathlib.Omega.{arith}
 use native.Mathlib.Decide.{decLt}
 use lib.ListN.{length, getD, take, length-take, List·getD-eq-default}
@@ -14,7 +14,7 @@ use Rattle.tail.proofs.Zeros.{clear-at, clear-of}
 use Rattle.hash.proofs.Feeding.{Whole}
 
 -- Bit i of a byte string.
-pub bit-at : (bytes : List ℕ) (i : ℕ) → getD (bitsOf bytes) i 0 ≡ getD bytes (i / 8) 0 / 2 ^ (7 - i % 8) % 2
+bit-at : (bytes : List ℕ) (i : ℕ) → getD (bitsOf bytes) i 0 ≡ getD bytes (i / 8) 0 / 2 ^ (7 - i % 8) % 2
 bit-at bytes i =
     let place : i ≡ 8 * (i / 8) + i % 8 = omega arith in
     ap (λ (k : ℕ). getD (bitsOf bytes) k 0) place ∙ getD-bitsOf bytes (i / 8) (i % 8) (omega arith)
@@ -32,24 +32,6 @@ bit-take k bytes i none =
           ∙ none
       | no past ↦ bit-past (take k bytes) i (omega (arith, length-take k bytes))
     ]
-
--- All bits looked at were 0, or one was not.
-pub clear-all : (bytes : List ℕ) (n i : ℕ) → ((k : ℕ) → n ≤ k → k < i → getD (bitsOf bytes) k 0 ≡ 0) → length bytes ≤ i / 8 → true ≡ clear n bytes
-clear-all bytes n i passed past =
-    sym
-    (clear-of n bytes
-    (λ k from.
-    elim (decLt k i) [
-      | yes below ↦ passed k from below
-      | no beyond ↦ bit-past bytes k (omega arith)
-    ]))
-
-clear-by : (b : Bool) (bytes : List ℕ) (n i : ℕ) → clear n bytes ≡ b → n ≤ i → (getD (bitsOf bytes) i 0 ≡ 0 → ⊥) → false ≡ b
-clear-by true bytes n i e from some = absurd (some (clear-at n bytes e i from))
-clear-by false bytes n i e from some = refl
-
-pub clear-not : (bytes : List ℕ) (n i : ℕ) → n ≤ i → (getD (bitsOf bytes) i 0 ≡ 0 → ⊥) → false ≡ clear n bytes
-clear-not bytes n i from some = clear-by (clear n bytes) bytes n i refl from some
 
 -- The pieces of PART and of FULL.
 pub whole-part : (piece : List ℕ) (count : ℕ) → count ≤ 8 * length piece → clear count piece ≡ true → Whole piece count

@@ -2,19 +2,19 @@
 use mathlib.Core.Bool.{Bool, true, false, cond}
 use mathlib.Core.List.{List}
 use mathlib.Core.Path.{_≡_, refl, ap, _∙_}
-use Prim.Native.Nat.{ℕ, zero, suc, _+_, _*_, _/_, _≤_, _<_}
+use Prim.Native.Nat.{ℕ, zero, suc, _+_, _/_, _≤_, _<_}
 use native.Mathlib.Omega.{arith}
 use lib.Dec.{leb, lit≤}
 use lib.ListN.{length, length-take}
-use Rattle.simd.specs.Basic.{familyOf, isWidth, stateWords, bytesOf}
+use Rattle.simd.specs.Basic.{familyOf, isWidth, bytesOf}
 use Rattle.simd.specs.Constants.{start}
 use Rattle.simd.specs.Message.{bitsOf, message, messageBlocks, lengthBlock}
 use Rattle.simd.specs.Hash.{chain, final, finalState, digest}
-use Rattle.laws.proofs.Table.{length-table}
 use Rattle.laws.proofs.Chain.{length-compression}
 use Rattle.tail.specs.Zero.{clear}
 use Rattle.hash.specs.Open.{limit}
 use Rattle.hash.proofs.Feeding.{at-widths}
+use Rattle.hash.proofs.Theorems.{length-bytesOf, digest-room}
 use Rattle.reader.specs.declared.Command.{Command}
 use Rattle.reader.specs.declared.Command.the-variants.{Open, Full, Part, Take, Stop}
 use Rattle.reader.specs.declared.Reading.{Reading}
@@ -25,19 +25,16 @@ use Rattle.tape.specs.Run.{Hashing, closed, opened, Effect, goes, takes,
 use Rattle.tape.proofs.Runs.{enough}
 
 -- A digest has width / 8 bytes.
-digest-room : (width : ℕ) → isWidth width ≡ true → width / 8 ≤ 4 * stateWords (familyOf width)
-digest-room = at-widths (λ (w : ℕ). w / 8 ≤ 4 * stateWords (familyOf w)) (lit≤ tt) (lit≤ tt) (lit≤ tt) (lit≤ tt)
-
-length-bytesOf : (words : List ℕ) → length (bytesOf words) ≡ 4 * length words
-unfolding bytesOf
-length-bytesOf words = length-table (4 * length words) _
-
 pub length-digest : (width : ℕ) → isWidth width ≡ true → (m : List ℕ) → length (digest width m) ≡ width / 8
 unfolding digest finalState final
 length-digest width known m =
     let f = familyOf width in
     let words = length-compression f true (chain f (start width) m (messageBlocks f (length m))) (lengthBlock f (length m)) in
     omega (arith, length-take (width / 8) (bytesOf (finalState width m)), length-bytesOf (finalState width m), words, digest-room width known)
+
+-- Any digest fits 64 bytes.
+pub fits-64 : (width : ℕ) → isWidth width ≡ true → (width / 8 ≤ 64) × (4 ≤ width / 8)
+fits-64 = at-widths (λ (w : ℕ). (w / 8 ≤ 64) × (4 ≤ w / 8)) (lit≤ tt, lit≤ tt) (lit≤ tt, lit≤ tt) (lit≤ tt, lit≤ tt) (lit≤ tt, lit≤ tt)
 
 -- An open hash has one of the four widths.
 abbrev Known : Hashing → Type 0

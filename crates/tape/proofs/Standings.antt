@@ -2,81 +2,39 @@
 -- joins the message.
 use mathlib.Core.Bool.{true, false}
 use mathlib.Core.List.{List, [], _++_}
-use mathlib.Core.Path.{_≡_, refl, sym, ap, _∙_}
-use Prim.Native.Nat.{ℕ, _+_, _*_, _/_, _%_, _≤_, _<_}
+use mathlib.Core.Path.{_≡_, sym, ap, _∙_}
+use Prim.Native.Nat.{ℕ, _+_, _*_, _/_, _≤_, _<_}
 use native.Mathlib.Nat.{zero-add}
 use native.Mathlib.Omega.{arith}
 use native.Mathlib.Decide.{decLe}
 use borrow.Author.Tests.{le-leb, lt-leb}
 use lib.Dec.{lit<}
-use lib.ListN.{length, take, length-append}
-use Rattle.simd.specs.Basic.{Family, small, large, familyOf, isWidth, blockBits, bytesOf}
-use Rattle.simd.specs.Constants.{start}
+use lib.ListN.{length, length-append}
+use Rattle.simd.specs.Basic.{isWidth}
 use Rattle.simd.specs.Message.{message}
-use Rattle.simd.specs.Hash.{digest, final, finalState}
-use Rattle.laws.proofs.Bits.{Bits, bits-append}
-use Rattle.hash.specs.Open.{limit, legal, reached, pending, holding, advanced, openAnswer, openRefusal, opened, pieceRefusal, feedRefusal, fed, feedAnswer, finalOf, digestOf, takeRefusal, taken, takeAnswer, written}
+use Rattle.simd.specs.Hash.{digest}
+use Rattle.laws.proofs.Bits.{bits-append}
+use Rattle.hash.specs.Open.{limit, legal, advanced, openAnswer, openRefusal, opened, pieceRefusal, feedRefusal, fed, feedAnswer, digestOf, takeRefusal, taken, takeAnswer, written}
 use Rattle.hash.specs.declared.Hash.{Hash}
 use Rattle.hash.specs.declared.Opened.{Opened}
 use Rattle.hash.specs.declared.Fed.{Fed}
-use Rattle.hash.proofs.Holding.{Sized, held-state, held-tail, held-legal}
-use Rattle.hash.proofs.Feeding.{Whole, held-sized, advanced-legal, advanced-append, advanced-none, fed-whole, length-message, bits-message, final-advanced, at-widths, start-length}
-use Rattle.hash.proofs.Theorems.{open-known, digest-length}
+use Rattle.hash.proofs.Feeding.{Whole, advanced-append, advanced-none, fed-whole, length-message, bits-message, at-widths}
+use Rattle.hash.proofs.Theorems.{open-known, digest-length, first, first-sized, first-legal, after-width, after-bits, after-legal, after-digest}
 use Rattle.text.specs.Text.{over}
 use Rattle.tape.specs.Run.{feeding}
 use Rattle.tape.specs.Standing.{Stands, Steps}
 
-none-used : (f : Family) → 0 ≡ 0 % blockBits f
-none-used small = refl
-none-used large = refl
-
-no-bit : Bits []
-no-bit i = omega arith
-
 module _ (width : ℕ) (known : isWidth width ≡ true) where
-  none-left : length {A = ℕ} [] ≡ 0 % blockBits (familyOf width)
-  none-left = none-used (familyOf width)
-
-  fresh-sized : Sized (holding width 0 (start width) [])
-  fresh-sized = held-sized width 0 (start width) [] no-bit
-
-  fresh-legal : legal (holding width 0 (start width) []) ≡ true
-  fresh-legal = held-legal width 0 (start width) [] (start-length width known) none-left no-bit known
-
-  fresh-state : reached (holding width 0 (start width) []) ≡ start width
-  fresh-state = held-state width 0 (start width) [] (start-length width known) none-left no-bit
-
-  fresh-tail : pending (holding width 0 (start width) []) ≡ []
-  fresh-tail = held-tail width 0 (start width) [] (start-length width known) none-left no-bit
-
-  fed-width : (m : List ℕ) → advanced (holding width 0 (start width) []) m .width ≡ width
-  unfolding advanced holding
-  fed-width m = refl
-
-  fed-bits : (m : List ℕ) → advanced (holding width 0 (start width) []) m .bits ≡ length m
-  unfolding advanced holding
-  fed-bits m = zero-add (length m)
-
-  fed-final : (m : List ℕ) → Bits m → finalOf (advanced (holding width 0 (start width) []) m) ≡ finalState width m
-  unfolding finalState final holding
-  fed-final m bit =
-      final-advanced (holding width 0 (start width) []) fresh-sized m bit
-      ∙ rw (fresh-state, fresh-tail, zero-add (length m))
-
-  fed-digest : (m : List ℕ) → Bits m → digestOf (advanced (holding width 0 (start width) []) m) ≡ digest width m
-  unfolding digestOf digest
-  fed-digest m bit = λ i. take (fed-width m i / 8) (bytesOf (fed-final m bit i))
-
   -- Opened.
   pub stands-fresh : Stands width [] (openAnswer width .hash)
   stands-fresh =
       record {
         known = known;
         short = omega arith;
-        bits = no-bit;
+        bits = λ i. omega arith;
         same =
             ap (λ (a : Opened). a .hash) (open-known width known)
-            ∙ sym (advanced-none (holding width 0 (start width) []) fresh-sized fresh-legal);
+            ∙ sym (advanced-none (first width) (first-sized width known) (first-legal width known));
       }
 
   pub open-accepted : openAnswer width .refusal ≡ 0
@@ -88,7 +46,7 @@ open-refused width unknown = rw unknown
 
 module _ (width : ℕ) (m : List ℕ) (hash : Hash) (s : Stands width m hash) where
   pub stands-width : hash .width ≡ width
-  stands-width = ap (λ (h : Hash). h .width) (s .same) ∙ fed-width width (s .known) m
+  stands-width = ap (λ (h : Hash). h .width) (s .same) ∙ after-width width (s .known) m (s .bits)
 
   pub stands-open : hash .width ≡ 0 → ⊥
   stands-open none =
@@ -96,15 +54,13 @@ module _ (width : ℕ) (m : List ℕ) (hash : Hash) (s : Stands width m hash) wh
       (sym stands-width ∙ none)
 
   stands-bits : hash .bits ≡ length m
-  stands-bits = ap (λ (h : Hash). h .bits) (s .same) ∙ fed-bits width (s .known) m
+  stands-bits = ap (λ (h : Hash). h .bits) (s .same) ∙ after-bits width (s .known) m (s .bits)
 
   stands-legal : legal hash ≡ true
-  stands-legal =
-      ap legal (s .same)
-      ∙ advanced-legal (holding width 0 (start width) []) (fresh-sized width (s .known)) m (s .bits) (fresh-legal width (s .known))
+  stands-legal = ap legal (s .same) ∙ after-legal width (s .known) m (s .bits)
 
   stands-digest : digestOf hash ≡ digest width m
-  stands-digest = ap digestOf (s .same) ∙ fed-digest width (s .known) m (s .bits)
+  stands-digest = ap digestOf (s .same) ∙ after-digest width (s .known) m (s .bits)
 
   pub digest-size : length (digest width m) ≡ width / 8
   digest-size =
@@ -149,7 +105,7 @@ module _ (width : ℕ) (m : List ℕ) (hash : Hash) (s : Stands width m hash) wh
             same =
                 ap (λ (a : Fed). a .hash) accepted
                 ∙ ap (λ (h : Hash). advanced h (message piece count)) (s .same)
-                ∙ advanced-append (holding width 0 (start width) []) (fresh-sized width (s .known)) m (message piece count) (s .bits);
+                ∙ advanced-append (first width) (first-sized width (s .known)) m (message piece count) (s .bits);
           },
         )
 

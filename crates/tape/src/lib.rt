@@ -1,8 +1,9 @@
 // The tape run: commands are read one after the other, and each TAKE writes the digest of what its own OPEN .. TAKE fed.
+ghost use mathlib.Core.Bool.{cond};
 ghost use mathlib.Core.Path.{_≡_};
-ghost use Prim.Native.Nat.{_+_, _-_, _/_, _%_, _^_, _≤_, _<_};
+ghost use Prim.Native.Nat.{_+_, _^_, _≤_, _<_};
+ghost use lib.Dec.{leb};
 ghost use lib.ListN.{length};
-ghost use Rattle.tail.specs.Zero.{clear as clearOf};
 ghost use Rattle.text.specs.Text.{over};
 ghost use Rattle.reader.specs.Reading.{Inside};
 ghost use Rattle.reader.specs.declared.Command.the-variants.{Full, Part};
@@ -29,29 +30,6 @@ pub enum Next {
 struct Step {
     hash: Hash,
     refusal: u8,
-}
-
-// Bit k of a byte, the highest first.
-fn bit(byte: u8, k: usize) -> u8
-    requires { ⌜ k < 8 ⌝ }
-    ensures { λ r. ⌜ r ≡ byte / 2 ^ (7 - k) % 2 ⌝ }
-{
-    (byte >> (7 - k)) % 2
-}
-
-// Whether no bit of the bytes is set from a place on.
-fn is_clear(bytes: &[u8], from: usize) -> bool
-    requires { ⌜ (length (now bytes) ≤ 32) × (from < 256) ⌝ }
-    ensures { λ r. ⌜ r ≡ clearOf from (now (bytes .entry)) ⌝ }
-{
-    let mut i = from;
-    while i / 8 < bytes.len() {
-        if bit(bytes[i / 8], i % 8) != 0 {
-            return false;
-        }
-        i += 1;
-    }
-    true
 }
 
 // OPEN.
@@ -102,7 +80,7 @@ fn part(hash: Hash, tape: &[u8], count: u8, place: usize) -> Step
             refusal: 12,
         };
     }
-    if !is_clear(&tape[place..place + 32], count as usize) {
+    if !tail::bits_zero(&tape[place..place + 32], count as usize) {
         return Step {
             hash: hash,
             refusal: 3,
@@ -149,13 +127,33 @@ fn obey(hash: Hash, tape: &[u8], command: Command) -> Step
     }
 }
 
+// Room for a digest.
+pub fn blank() -> [u8; 64]
+    ensures { λ r. ⌜ 64 ≡ length r ⌝ }
+{
+    [0; 64]
+}
+
+// The bytes that a TAKE writes: none where its digest does not fit.
+fn fitting(size: usize, room: usize) -> usize
+    ensures { λ r. ⌜ (r ≤ 64) × (r ≤ room) × (size ≤ 64 → r ≡ cond (leb size room) size 0) ⌝ }
+{
+    if 64 < size {
+        return 0;
+    }
+    if size <= room { size } else { 0 }
+}
+
 // The digest of an open hash, and the place after its TAKE.
 fn finish(hash: Hash, at: usize, out: &mut [u8]) -> Next
     requires { ⌜ at + 1 < 2 ^ 64 ⌝ }
     ensures { λ r. ⌜ Finishes hash at (now (out .entry)) (now (out .exit)) r ⌝ }
 {
     let width = hash.width;
-    let taken = hash.take(out);
+    let size = fitting(wide(width / 8), out.len());
+    let mut digest = blank();
+    let taken = hash.take(&mut digest[..size]);
+    text::put(out, 0, &digest[..size]);
     if taken.refusal != 0 {
         return Next::Ended(6, at);
     }

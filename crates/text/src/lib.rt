@@ -37,7 +37,7 @@ pub fn refused_line(text: &mut [u8], number: u8, place: usize) -> usize
 
 // Each of these writes at a place and answers the place after.
 
-fn put(text: &mut [u8], at: usize, s: &[u8]) -> usize
+pub fn put(text: &mut [u8], at: usize, s: &[u8]) -> usize
     requires { ⌜ at + length (now s) ≤ length (now text) ⌝ }
     ensures { λ r. ⌜ (now (text .exit) ≡ over (now (text .entry)) at (now (s .entry))) × (r ≡ at + length (now (s .entry))) ⌝ }
 {

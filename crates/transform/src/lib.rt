@@ -11,7 +11,7 @@ mod stage;
 // The transform of a block of the small family, written to out. The tables are those of `transform_tables::roots` and `transform_tables::added_small`.
 // The first two stages run over neighbouring places of the block. Then the eight values of a place are brought side by side, and the other
 // stages run over these. They work on local arrays, which cannot overlap a table: so the loops become vector code with no test.
-pub fn small(block: &[u8], roots: &[u16], added: &[u16], out: &mut [u16], last: bool)
+pub fn small(block: &[u8], roots: &[u16; 512], added: &[u16; 128], out: &mut [u16], last: bool)
     requires { ⌜ (length (now block) ≡ 64) × (length (now out) ≡ 128) ⌝ }
     requires { ⌜ Roots (now roots) ⌝ }
     requires { ⌜ now added ≡ table 128 (λ i. addedTo smallFamily last i % 257) ⌝ }
@@ -33,7 +33,7 @@ pub fn small(block: &[u8], roots: &[u16], added: &[u16], out: &mut [u16], last: 
 }
 
 // The same for a block of the large family, with `transform_tables::added_large`.
-pub fn large(block: &[u8], roots: &[u16], added: &[u16], out: &mut [u16], last: bool)
+pub fn large(block: &[u8], roots: &[u16; 512], added: &[u16; 256], out: &mut [u16], last: bool)
     requires { ⌜ (length (now block) ≡ 128) × (length (now out) ≡ 256) ⌝ }
     requires { ⌜ Roots (now roots) ⌝ }
     requires { ⌜ now added ≡ table 256 (λ i. addedTo largeFamily last i % 257) ⌝ }

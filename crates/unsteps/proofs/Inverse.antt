@@ -160,6 +160,11 @@ module _ (f : Family) (w : List (List ℕ)) where
   steps-valid zero s valid = valid
   steps-valid (suc i) s valid = step-valid f i (getD w i []) (steps f w i s) (steps-valid i s valid)
 
+  pub unsteps-valid : (n : ℕ) (s : State) → Valid f s → Valid f (unsteps f w n s)
+  unfolding unsteps
+  unsteps-valid zero s valid = valid
+  unsteps-valid (suc i) s valid = unsteps-valid i (unstep f i (getD w i []) s) (unstep-valid f i (getD w i []) s valid)
+
   -- Back after forward is the start.
   pub unsteps-steps : (n : ℕ) (s : State) → Valid f s → unsteps f w n (steps f w n s) ≡ s
   unfolding unsteps steps

@@ -2,14 +2,15 @@
 use mathlib.Core.List.{List, [], _∷_}
 use mathlib.Core.Path.{_≡_, refl, sym, ap, _∙_, subst}
 use Prim.Native.Nat.{ℕ, _+_, _/_, _%_, _<_, min}
-use native.Mathlib.Nat.{mod-eq-of-lt}
+use native.Mathlib.Nat.{mod-lt, mod-eq-of-lt}
 use lib.Bits.{bitXor}
+use lib.Dec.{lit<}
 use lib.ListN.{getD}
 use Rattle.simd.specs.Basic.{Family, small, large, rows, table}
 use Rattle.simd.specs.Constants.{rotations, exchange}
 use Rattle.simd.specs.Steps.{State, add, rotl, choose, rotation, partner, step}
-use Rattle.laws.proofs.Table.{table-ext}
-use Rattle.words.specs.Columns.{fromColumns, columns, newA, newB, stepBy, exchanges, period, halfBy, stacked, joined}
+use Rattle.laws.proofs.Table.{table-ext, getD-table}
+use Rattle.words.specs.Columns.{fromColumns, columns, newB, rowBy, newA, stepBy, exchanges, period, turnedBy, halfBy, joined}
 use Rattle.words.proofs.Exchanges.{partner-code}
 use Rattle.words.proofs.Rotations.{rotation-below}
 
@@ -19,8 +20,12 @@ unfolding table
 four-words g e₀ e₁ e₂ e₃ = λ t. e₀ t ∷ e₁ t ∷ e₂ t ∷ e₃ t ∷ []
 
 -- Word j of new A from its two summands.
-pub word-a : (k : ℕ) (l : List ℕ) {v b b′ t y y′ : ℕ} → v ≡ add b t → b ≡ b′ → t ≡ rotl k (getD l y 0) → y ≡ y′ → v ≡ add b′ (rotl k (getD l y′ 0))
-word-a k l v-is b-is t-is y-is = v-is ∙ (λ u. add (b-is u) ((t-is ∙ ap (λ n. rotl k (getD l n 0)) y-is) u))
+pub word-a : (k : ℕ) (t : List ℕ) {v m m′ y y′ : ℕ} → v ≡ add (rotl k m) (getD t y 0) → m ≡ m′ → y ≡ y′ → v ≡ add (rotl k m′) (getD t y′ 0)
+word-a k t v-is m-is y-is = v-is ∙ (λ u. add (rotl k (m-is u)) (getD t (y-is u) 0))
+
+some-rows : (f : Family) → 0 < rows f
+some-rows small = lit< tt
+some-rows large = lit< tt
 
 exchange-read : (f : Family) (i : ℕ) → getD (exchanges f) (i % period f) 0 ≡ exchange f i
 unfolding exchange
@@ -56,19 +61,22 @@ module _ (f : Family) (i : ℕ) (w : List ℕ) (s : State) where
       let b-is = (λ t. table (rows f) (newB (r-is t) s)) ∙ new-b in
       λ t. record { a = a-is t; b = b-is t; c = s .b; d = s .c }
 
--- The two halves of a column of 8 words.
-stacked-table : (g : ℕ → ℕ) → stacked (table 4 (λ j. g (0 + j))) (table 4 (λ j. g (4 + j))) ≡ table 8 g
-unfolding stacked table
-stacked-table g = refl
+-- New A from new B as a list.
+pub from-b : (f : Family) (g : ℕ → ℕ → ℕ → ℕ) (r q x : ℕ) (w : List ℕ) (s : State) {t : List ℕ} → t ≡ table (rows f) (newB r s) →
+    (j : ℕ) → rowBy f g q x w (λ y. getD t y 0) s j ≡ newA f g r q x w s j
+from-b f g r q x w s t-is j =
+    ap (add _)
+    (ap (λ l. getD l (bitXor j x % rows f) 0) t-is ∙ getD-table (rows f) (newB r s) (bitXor j x % rows f) 0 (mod-lt (bitXor j x) (some-rows f)))
 
-pub join-step : (g : ℕ → ℕ → ℕ → ℕ) (tr : List (List ℕ)) (te : List ℕ) (n i : ℕ) (w : List ℕ) (s : List (List ℕ)) {l h s′ : List (List ℕ)} →
-    l ≡ halfBy g tr te n i w (fromColumns s) 0 → h ≡ halfBy g tr te n i w (fromColumns s) 4 → s′ ≡ joined l h s →
+-- A step of 8 rows from its parts.
+pub join-step : (g : ℕ → ℕ → ℕ → ℕ) (tr : List (List ℕ)) (te : List ℕ) (n i : ℕ) (w : List ℕ) (s : List (List ℕ)) {t l h : List ℕ} {s′ : List (List ℕ)} →
+    t ≡ turnedBy tr n i (fromColumns s) → l ≡ halfBy g tr te n i w t (fromColumns s) 0 → h ≡ halfBy g tr te n i w t (fromColumns s) 4 → s′ ≡ joined l h t s →
     s′ ≡ columns (stepBy large g tr te n i w (fromColumns s))
-unfolding halfBy joined stepBy
-join-step g tr te n i w s l-is h-is s-is =
+unfolding turnedBy halfBy joined stepBy table
+join-step g tr te n i w s {t} t-is l-is h-is s-is =
     let r = getD (getD tr n []) (i % 4) 0 in
     let q = getD (getD tr n []) ((i + 1) % 4) 0 in
     let x = getD te (i % 7) 0 in
-    let a = stacked-table (newA large g r q x w (fromColumns s)) in
-    let b = stacked-table (newB r (fromColumns s)) in
-    s-is ∙ (λ t. joined (l-is t) (h-is t) s) ∙ (λ t. a t ∷ b t ∷ getD s 1 [] ∷ getD s 2 [] ∷ [])
+    let st = fromColumns s in
+    let a-is = table-ext 8 (rowBy large g q x w (λ y. getD t y 0) st) (newA large g r q x w st) (λ j _. from-b large g r q x w st t-is j) in
+    s-is ∙ (λ u. joined (l-is u) (h-is u) t s) ∙ (λ u. a-is u ∷ t-is u ∷ getD s 1 [] ∷ getD s 2 [] ∷ [])

@@ -2,3 +2,4 @@ pub mod Rotations
 pub mod Exchanges
 pub mod Columns
 pub mod Runs
+pub mod Single

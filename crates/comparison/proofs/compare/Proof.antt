@@ -11,25 +11,25 @@ is-width-requires c κs = search needs
 returns : tie.Need-returns
 returns c = answer-width _ _ _ _ _ (sym (c .before .is-width .ensures) ∙ not-true _ (c .if1 .taken))
 
-refusal-of-requires : tie.Need-refusal-of-requires
-refusal-of-requires c κs = search needs
+piece-refusal-requires : tie.Need-piece-refusal-requires
+piece-refusal-requires c κs = search needs
 
 returns-2 : tie.Need-returns-2
 returns-2 c =
     let known = sym (c .before .before .before .is-width .ensures) ∙ not-false _ (c .before .before .if1 .left) in
-    answer-first _ _ _ _ _ known _ (c .before .refusal-of .ensures) (c .if2 .taken)
+    answer-first _ _ _ _ _ known _ (c .before .piece-refusal .ensures) (c .if2 .taken)
 
-refusal-of-requires-2 : tie.Need-refusal-of-requires-2
-refusal-of-requires-2 c κs = search needs
+piece-refusal-requires-2 : tie.Need-piece-refusal-requires-2
+piece-refusal-requires-2 c κs = search needs
 
 returns-3 : tie.Need-returns-3
 returns-3 c =
     let known = sym (c .before .before .before .before .before .is-width .ensures) ∙ not-false _ (c .before .before .before .before .if1 .left) in
-    answer-second _ _ _ _ _ known _ (sym (c .before .before .before .refusal-of .ensures) ∙ c .before .before .if2 .left) (c .before .refusal-of2 .ensures) (c .if3 .taken)
+    answer-second _ _ _ _ _ known _ (sym (c .before .before .before .piece-refusal .ensures) ∙ c .before .before .if2 .left) (c .before .piece-refusal2 .ensures) (c .if3 .taken)
 
 compare-width-requires : tie.Need-compare-width-requires
 compare-width-requires c κs =
-    (sym (c .before .before .before .before .before .is-width .ensures) ∙ not-false _ (c .before .before .before .before .if1 .left), sym (c .before .before .before .refusal-of .ensures) ∙ c .before .before .if2 .left, sym (c .before .refusal-of2 .ensures) ∙ c .if3 .left)
+    (sym (c .before .before .before .before .before .is-width .ensures) ∙ not-false _ (c .before .before .before .before .if1 .left), sym (c .before .before .before .piece-refusal .ensures) ∙ c .before .before .if2 .left, sym (c .before .piece-refusal2 .ensures) ∙ c .if3 .left)
 
 returns-4 : tie.Need-returns-4
 returns-4 c =
@@ -42,9 +42,9 @@ compare-spec =
     (tie.spec
     is-width-requires
     returns
-    refusal-of-requires
+    piece-refusal-requires
     returns-2
-    refusal-of-requires-2
+    piece-refusal-requires-2
     returns-3
     compare-width-requires
     returns-4)

@@ -18,17 +18,11 @@ length-large-requires c κs = search needs
 slice-aggregate-compress : tie.Need-slice-aggregate-compress
 slice-aggregate-compress c = search needs
 
-slice-aggregate-compress-2 : tie.Need-slice-aggregate-compress-2
-slice-aggregate-compress-2 c = search needs
-
-slice-aggregate-compress-3 : tie.Need-slice-aggregate-compress-3
-slice-aggregate-compress-3 c = search needs
-
 compress-requires : tie.Need-compress-requires
 compress-requires c κs = search needs
 
 returns : tie.Need-returns
-returns c = c .compress .ensures ∙ ap (compression large true (c .before .before .before .before .before .before .before .before .args .state .now)) (c .before .before .before .before .before .length-large .ensures)
+returns c = c .compress .ensures ∙ ap (compression large true (c .before .before .before .before .before .before .before .before .before .args .state .now)) (c .before .before .before .before .before .before .length-large .ensures)
 
 pub finish-large-spec : {M : Type 1} → statement M
 finish-large-spec =
@@ -38,7 +32,5 @@ finish-large-spec =
     added-large-requires
     length-large-requires
     slice-aggregate-compress
-    slice-aggregate-compress-2
-    slice-aggregate-compress-3
     compress-requires
     returns)

@@ -21,7 +21,7 @@ slice-aggregate-matrix-large c = search needs
 
 matrix-large-requires : tie.Need-matrix-large-requires
 matrix-large-requires c κs =
-    let a = c .before .before .before .before .before .before .before .args in
+    let a = c .before .before .before .before .before .args in
     let values = c .before .before .large .ensures in
     (ap length values ∙ length-table 256 (transform large (a .last) (a .block .now)), values-lt 256 large (a .last) (a .block .now) values)
 
@@ -30,7 +30,7 @@ permuted-large-requires c κs = search needs
 
 returns : tie.Need-returns
 returns c =
-    let a = c .before .before .before .before .before .before .before .before .before .args in
+    let a = c .before .before .before .before .before .before .before .args in
     expanded-of large (a .last) (a .block .now) (c .before .before .before .before .large .ensures) (c .before .matrix-large .ensures) (c .permuted-large .ensures)
 
 pub expand-large-spec : {M : Type 1} → statement M

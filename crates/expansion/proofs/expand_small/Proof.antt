@@ -21,7 +21,7 @@ slice-aggregate-matrix-small c = search needs
 
 matrix-small-requires : tie.Need-matrix-small-requires
 matrix-small-requires c κs =
-    let a = c .before .before .before .before .before .before .before .args in
+    let a = c .before .before .before .before .before .args in
     let values = c .before .before .small .ensures in
     (ap length values ∙ length-table 128 (transform small (a .last) (a .block .now)), values-lt 128 small (a .last) (a .block .now) values)
 
@@ -30,7 +30,7 @@ permuted-small-requires c κs = search needs
 
 returns : tie.Need-returns
 returns c =
-    let a = c .before .before .before .before .before .before .before .before .before .args in
+    let a = c .before .before .before .before .before .before .before .args in
     expanded-of small (a .last) (a .block .now) (c .before .before .before .before .small .ensures) (c .before .matrix-small .ensures) (c .permuted-small .ensures)
 
 pub expand-small-spec : {M : Type 1} → statement M

@@ -14,12 +14,6 @@ roots-requires c κs = search needs
 added-large-requires : tie.Need-added-large-requires
 added-large-requires c κs = search needs
 
-slice-aggregate-expand-large : tie.Need-slice-aggregate-expand-large
-slice-aggregate-expand-large c = search needs
-
-slice-aggregate-expand-large-2 : tie.Need-slice-aggregate-expand-large-2
-slice-aggregate-expand-large-2 c = search needs
-
 expand-large-requires : tie.Need-expand-large-requires
 expand-large-requires c κs = search needs
 
@@ -42,8 +36,6 @@ write-large-spec =
     (tie.spec
     roots-requires
     added-large-requires
-    slice-aggregate-expand-large
-    slice-aggregate-expand-large-2
     expand-large-requires
     put-large-requires
     same-length

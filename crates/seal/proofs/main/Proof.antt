@@ -34,11 +34,11 @@ fail-requires c κs = search needs
 returns : tie.Need-returns
 returns c = search needs
 
-page-requires : tie.Need-page-requires
-page-requires c κs = search needs
+line-room-requires : tie.Need-line-room-requires
+line-room-requires c κs = search needs
 
 -- The bytes read.
-size : (c : tie.After-page) → c .before .before .input .given .0 .0 ≤ length (c .before .before .before .before .before .read-tape .last .0)
+size : (c : tie.After-line-room) → c .before .before .input .given .0 .0 ≤ length (c .before .before .before .before .before .read-tape .last .0)
 size c =
     let call = c .before .before .before .before .before .read-tape in
     subst (λ (i : Input). Within i (length (call .last .0))) (c .before .before .input .given .1) (call .ensures)
@@ -56,7 +56,7 @@ print-requires : tie.Need-print-requires
 print-requires c κs =
     let read = c .before .before .before .before .before .before .before .read-tape in (
       omega (arith, length-take-le (c .before .before .before .before .input .given .0 .0) (read .last .0) (size (c .before .before)), size (c .before .before), read .kept .0, c .before .before .before .before .before .before .before .before .before .room .ensures),
-      sym (c .before .before .page .ensures),
+      sym (c .before .before .line-room .ensures),
     )
 
 returns-2 : tie.Need-returns-2
@@ -74,7 +74,7 @@ main-spec =
     slice-aggregate-fail
     fail-requires
     returns
-    page-requires
+    line-room-requires
     array-share-prefix-tape
     slice-aggregate-print
     slice-aggregate-print-2

@@ -13,12 +13,6 @@ roots-requires c κs = search needs
 added-large-requires : tie.Need-added-large-requires
 added-large-requires c κs = search needs
 
-slice-aggregate-expand-large : tie.Need-slice-aggregate-expand-large
-slice-aggregate-expand-large c = search needs
-
-slice-aggregate-expand-large-2 : tie.Need-slice-aggregate-expand-large-2
-slice-aggregate-expand-large-2 c = search needs
-
 expand-large-requires : tie.Need-expand-large-requires
 expand-large-requires c κs = search needs
 
@@ -48,11 +42,11 @@ same-length c = search needs
 
 returns : tie.Need-returns
 returns c =
-    let p = c .before .before .before .before .before .before .before .before .before .before .before .before .before .before .before .before .before .before .before .before .args in
+    let p = c .before .before .before .before .before .before .before .before .before .before .before .before .before .before .before .before .before .before .before .before .before .args in
     let t = c .before .before .before .before .before .before .steps .result in
-    let x-is = c .before .before .before .before .before .before .before .before .before .before .read .ensures in
-    let m-is = c .before .before .before .before .before .before .before .before .split .ensures in
-    let w-is = c .before .before .before .before .before .before .before .before .before .before .before .before .expand-large .ensures in
+    let x-is = c .before .before .before .before .before .before .before .before .before .before .before .read .ensures in
+    let m-is = c .before .before .before .before .before .before .before .before .before .split .ensures in
+    let w-is = c .before .before .before .before .before .before .before .before .before .before .before .before .before .expand-large .ensures in
     let y-is = c .before .before .before .before .before .flat .ensures in
     let bytes = forward-bytes large (p .last) (p .state .now) (p .block .now) t x-is m-is w-is y-is (c .before .before .before .before .before .before .steps .ensures) in
     let size = y-size large (p .last) (p .state .now) (p .block .now) t x-is m-is w-is y-is in
@@ -64,8 +58,6 @@ forward-large-spec =
     (tie.spec
     roots-requires
     added-large-requires
-    slice-aggregate-expand-large
-    slice-aggregate-expand-large-2
     expand-large-requires
     slice-aggregate-read
     read-requires

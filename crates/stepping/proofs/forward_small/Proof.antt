@@ -13,12 +13,6 @@ roots-requires c κs = search needs
 added-small-requires : tie.Need-added-small-requires
 added-small-requires c κs = search needs
 
-slice-aggregate-expand-small : tie.Need-slice-aggregate-expand-small
-slice-aggregate-expand-small c = search needs
-
-slice-aggregate-expand-small-2 : tie.Need-slice-aggregate-expand-small-2
-slice-aggregate-expand-small-2 c = search needs
-
 expand-small-requires : tie.Need-expand-small-requires
 expand-small-requires c κs = search needs
 
@@ -48,11 +42,11 @@ same-length c = search needs
 
 returns : tie.Need-returns
 returns c =
-    let p = c .before .before .before .before .before .before .before .before .before .before .before .before .before .before .before .before .before .before .before .before .args in
+    let p = c .before .before .before .before .before .before .before .before .before .before .before .before .before .before .before .before .before .before .before .before .before .args in
     let t = c .before .before .before .before .before .before .steps .result in
-    let x-is = c .before .before .before .before .before .before .before .before .before .before .read .ensures in
-    let m-is = c .before .before .before .before .before .before .before .before .split .ensures in
-    let w-is = c .before .before .before .before .before .before .before .before .before .before .before .before .expand-small .ensures in
+    let x-is = c .before .before .before .before .before .before .before .before .before .before .before .read .ensures in
+    let m-is = c .before .before .before .before .before .before .before .before .before .split .ensures in
+    let w-is = c .before .before .before .before .before .before .before .before .before .before .before .before .before .expand-small .ensures in
     let y-is = c .before .before .before .before .before .flat .ensures in
     let bytes = forward-bytes small (p .last) (p .state .now) (p .block .now) t x-is m-is w-is y-is (c .before .before .before .before .before .before .steps .ensures) in
     let size = y-size small (p .last) (p .state .now) (p .block .now) t x-is m-is w-is y-is in
@@ -64,8 +58,6 @@ forward-small-spec =
     (tie.spec
     roots-requires
     added-small-requires
-    slice-aggregate-expand-small
-    slice-aggregate-expand-small-2
     expand-small-requires
     slice-aggregate-read
     read-requires

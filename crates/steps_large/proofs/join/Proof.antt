@@ -1,105 +1,33 @@
 use mathlib.Core.Path.{refl}
 use Rattle.simd.specs.Basic.{table}
-use Rattle.words.specs.Columns.{stacked, joined}
+use Rattle.words.specs.Columns.{joined}
 use borrow.Author.Needs.{needs}
 use Rattle.steps_large.proofs.join.Statement.{statement}
 use Rattle.steps_large.proofs.join.Tie as tie
 
-index-1-t15 : tie.Need-index-1-t15
-index-1-t15 c = search needs
+array-read-t13 : tie.Need-array-read-t13
+array-read-t13 c = search needs
 
-index-2-t15 : tie.Need-index-2-t15
-index-2-t15 c = search needs
+array-read-t16 : tie.Need-array-read-t16
+array-read-t16 c = search needs
 
-index-1-t20 : tie.Need-index-1-t20
-index-1-t20 c = search needs
+array-read-t19 : tie.Need-array-read-t19
+array-read-t19 c = search needs
 
-index-2-t20 : tie.Need-index-2-t20
-index-2-t20 c = search needs
+array-read-t22 : tie.Need-array-read-t22
+array-read-t22 c = search needs
 
-index-1-t25 : tie.Need-index-1-t25
-index-1-t25 c = search needs
+array-read-t25 : tie.Need-array-read-t25
+array-read-t25 c = search needs
 
-index-2-t25 : tie.Need-index-2-t25
-index-2-t25 c = search needs
+array-read-t28 : tie.Need-array-read-t28
+array-read-t28 c = search needs
 
-index-1-t30 : tie.Need-index-1-t30
-index-1-t30 c = search needs
+array-read-t31 : tie.Need-array-read-t31
+array-read-t31 c = search needs
 
-index-2-t30 : tie.Need-index-2-t30
-index-2-t30 c = search needs
-
-index-1-t35 : tie.Need-index-1-t35
-index-1-t35 c = search needs
-
-index-2-t35 : tie.Need-index-2-t35
-index-2-t35 c = search needs
-
-index-1-t40 : tie.Need-index-1-t40
-index-1-t40 c = search needs
-
-index-2-t40 : tie.Need-index-2-t40
-index-2-t40 c = search needs
-
-index-1-t45 : tie.Need-index-1-t45
-index-1-t45 c = search needs
-
-index-2-t45 : tie.Need-index-2-t45
-index-2-t45 c = search needs
-
-index-1-t50 : tie.Need-index-1-t50
-index-1-t50 c = search needs
-
-index-2-t50 : tie.Need-index-2-t50
-index-2-t50 c = search needs
-
-index-1-t15-2 : tie.Need-index-1-t15-2
-index-1-t15-2 c = search needs
-
-index-2-t15-2 : tie.Need-index-2-t15-2
-index-2-t15-2 c = search needs
-
-index-1-t50-2 : tie.Need-index-1-t50-2
-index-1-t50-2 c = search needs
-
-index-2-t50-2 : tie.Need-index-2-t50-2
-index-2-t50-2 c = search needs
-
-index-1-t45-2 : tie.Need-index-1-t45-2
-index-1-t45-2 c = search needs
-
-index-2-t45-2 : tie.Need-index-2-t45-2
-index-2-t45-2 c = search needs
-
-index-1-t40-2 : tie.Need-index-1-t40-2
-index-1-t40-2 c = search needs
-
-index-2-t40-2 : tie.Need-index-2-t40-2
-index-2-t40-2 c = search needs
-
-index-1-t35-2 : tie.Need-index-1-t35-2
-index-1-t35-2 c = search needs
-
-index-2-t35-2 : tie.Need-index-2-t35-2
-index-2-t35-2 c = search needs
-
-index-1-t30-2 : tie.Need-index-1-t30-2
-index-1-t30-2 c = search needs
-
-index-2-t30-2 : tie.Need-index-2-t30-2
-index-2-t30-2 c = search needs
-
-index-1-t25-2 : tie.Need-index-1-t25-2
-index-1-t25-2 c = search needs
-
-index-2-t25-2 : tie.Need-index-2-t25-2
-index-2-t25-2 c = search needs
-
-index-1-t20-2 : tie.Need-index-1-t20-2
-index-1-t20-2 c = search needs
-
-index-2-t20-2 : tie.Need-index-2-t20-2
-index-2-t20-2 c = search needs
+array-read-t34 : tie.Need-array-read-t34
+array-read-t34 c = search needs
 
 array-copy-out-c : tie.Need-array-copy-out-c
 array-copy-out-c c = search needs
@@ -108,45 +36,21 @@ array-copy-out-d : tie.Need-array-copy-out-d
 array-copy-out-d c = search needs
 
 returns : tie.Need-returns
-unfolding joined stacked table
+unfolding joined table
 returns c = refl
 
 pub join-spec : {M : Type 1} → statement M
 join-spec =
     tie.close
     (tie.spec
-    index-1-t15
-    index-2-t15
-    index-1-t20
-    index-2-t20
-    index-1-t25
-    index-2-t25
-    index-1-t30
-    index-2-t30
-    index-1-t35
-    index-2-t35
-    index-1-t40
-    index-2-t40
-    index-1-t45
-    index-2-t45
-    index-1-t50
-    index-2-t50
-    index-1-t15-2
-    index-2-t15-2
-    index-1-t50-2
-    index-2-t50-2
-    index-1-t45-2
-    index-2-t45-2
-    index-1-t40-2
-    index-2-t40-2
-    index-1-t35-2
-    index-2-t35-2
-    index-1-t30-2
-    index-2-t30-2
-    index-1-t25-2
-    index-2-t25-2
-    index-1-t20-2
-    index-2-t20-2
+    array-read-t13
+    array-read-t16
+    array-read-t19
+    array-read-t22
+    array-read-t25
+    array-read-t28
+    array-read-t31
+    array-read-t34
     array-copy-out-c
     array-copy-out-d
     returns)

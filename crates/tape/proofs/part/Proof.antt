@@ -19,27 +19,27 @@ returns c =
     let a = c .before .before .before .args in
     none-open (a .tape .now) (Part (a .count) (a .place)) (a .hash) (c .if1 .taken) refl
 
-add-is-clear : tie.Need-add-is-clear
-add-is-clear c = search needs
+add-bits-zero : tie.Need-add-bits-zero
+add-bits-zero c = search needs
 
-sub-is-clear : tie.Need-sub-is-clear
-sub-is-clear c = search needs
+sub-bits-zero : tie.Need-sub-bits-zero
+sub-bits-zero c = search needs
 
-part-is-clear-start : tie.Need-part-is-clear-start
-part-is-clear-start c = search needs
+part-bits-zero-start : tie.Need-part-bits-zero-start
+part-bits-zero-start c = search needs
 
-part-is-clear-end : tie.Need-part-is-clear-end
-part-is-clear-end c = search needs
+part-bits-zero-end : tie.Need-part-bits-zero-end
+part-bits-zero-end c = search needs
 
-is-clear-requires : tie.Need-is-clear-requires
-is-clear-requires c κs = search needs
+bits-zero-requires : tie.Need-bits-zero-requires
+bits-zero-requires c κs = search needs
 
 returns-2 : tie.Need-returns-2
 returns-2 c =
     let a = c .before .before .before .before .before .before .args in
     let size = add-sub-cancel-left (a .place) 32 in
     part-set (a .tape .now) (a .count) (a .place) (a .hash) (c .before .before .before .if1 .left)
-    (sym (c .before .is-clear .ensures ∙ ap (λ (k : ℕ). clear (a .count) (take k (drop (a .place) (a .tape .now)))) size) ∙ not-true _ (c .if2 .taken))
+    (sym (c .before .bits-zero .ensures ∙ ap (λ (k : ℕ). clear (a .count) (take k (drop (a .place) (a .tape .now)))) size) ∙ not-true _ (c .if2 .taken))
 
 add-feed : tie.Need-add-feed
 add-feed c = search needs
@@ -62,7 +62,7 @@ returns-3 c =
     let a = s .args in
     let size = add-sub-cancel-left (a .place) 32 in
     part-fed (a .tape .now) (a .count) (a .place) (a .hash) (c .before .feed .result) (s .pre) (search needs) (c .before .before .before .before .before .before .if1 .left)
-    (sym (c .before .before .before .before .is-clear .ensures ∙ ap (λ (k : ℕ). clear (a .count) (take k (drop (a .place) (a .tape .now)))) size) ∙ not-false _ (c .before .before .before .if2 .left))
+    (sym (c .before .before .before .before .bits-zero .ensures ∙ ap (λ (k : ℕ). clear (a .count) (take k (drop (a .place) (a .tape .now)))) size) ∙ not-false _ (c .before .before .before .if2 .left))
     (c .before .feed .ensures ∙ ap (λ (k : ℕ). feedAnswer (a .hash) (take k (drop (a .place) (a .tape .now))) (a .count)) size)
 
 pub part-spec : {M : Type 1} → statement M
@@ -70,11 +70,11 @@ part-spec =
     tie.close
     (tie.spec
     returns
-    add-is-clear
-    sub-is-clear
-    part-is-clear-start
-    part-is-clear-end
-    is-clear-requires
+    add-bits-zero
+    sub-bits-zero
+    part-bits-zero-start
+    part-bits-zero-end
+    bits-zero-requires
     returns-2
     add-feed
     sub-feed

@@ -20,12 +20,6 @@ added-large-requires c κs = search needs
 slice-aggregate-large : tie.Need-slice-aggregate-large
 slice-aggregate-large c = search needs
 
-slice-aggregate-large-2 : tie.Need-slice-aggregate-large-2
-slice-aggregate-large-2 c = search needs
-
-slice-aggregate-large-3 : tie.Need-slice-aggregate-large-3
-slice-aggregate-large-3 c = search needs
-
 large-requires : tie.Need-large-requires
 large-requires c κs = search needs
 
@@ -58,8 +52,6 @@ matrix-large-spec =
     roots-requires
     added-large-requires
     slice-aggregate-large
-    slice-aggregate-large-2
-    slice-aggregate-large-3
     large-requires
     slice-aggregate-matrix-large
     matrix-large-requires

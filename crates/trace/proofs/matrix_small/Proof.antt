@@ -20,12 +20,6 @@ added-small-requires c κs = search needs
 slice-aggregate-small : tie.Need-slice-aggregate-small
 slice-aggregate-small c = search needs
 
-slice-aggregate-small-2 : tie.Need-slice-aggregate-small-2
-slice-aggregate-small-2 c = search needs
-
-slice-aggregate-small-3 : tie.Need-slice-aggregate-small-3
-slice-aggregate-small-3 c = search needs
-
 small-requires : tie.Need-small-requires
 small-requires c κs = search needs
 
@@ -58,8 +52,6 @@ matrix-small-spec =
     roots-requires
     added-small-requires
     slice-aggregate-small
-    slice-aggregate-small-2
-    slice-aggregate-small-3
     small-requires
     slice-aggregate-matrix-small
     matrix-small-requires

@@ -13,17 +13,11 @@ roots-requires c κs = search needs
 added-large-requires : tie.Need-added-large-requires
 added-large-requires c κs = search needs
 
-slice-aggregate-large : tie.Need-slice-aggregate-large
-slice-aggregate-large c = search needs
-
-slice-aggregate-large-2 : tie.Need-slice-aggregate-large-2
-slice-aggregate-large-2 c = search needs
-
 slice-relend-prefix-large : tie.Need-slice-relend-prefix-large
 slice-relend-prefix-large c = search needs
 
-slice-aggregate-large-3 : tie.Need-slice-aggregate-large-3
-slice-aggregate-large-3 c =
+slice-aggregate-large : tie.Need-slice-aggregate-large
+slice-aggregate-large c =
     let s = c .before .before .before .before .before .before .before in
     sym (length-take-le 256 (s .args .out .now) (s .pre .1))
 
@@ -45,10 +39,8 @@ values-large-spec =
     (tie.spec
     roots-requires
     added-large-requires
-    slice-aggregate-large
-    slice-aggregate-large-2
     slice-relend-prefix-large
-    slice-aggregate-large-3
+    slice-aggregate-large
     large-requires
     same-length
     returns)

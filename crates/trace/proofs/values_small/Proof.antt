@@ -13,17 +13,11 @@ roots-requires c κs = search needs
 added-small-requires : tie.Need-added-small-requires
 added-small-requires c κs = search needs
 
-slice-aggregate-small : tie.Need-slice-aggregate-small
-slice-aggregate-small c = search needs
-
-slice-aggregate-small-2 : tie.Need-slice-aggregate-small-2
-slice-aggregate-small-2 c = search needs
-
 slice-relend-prefix-small : tie.Need-slice-relend-prefix-small
 slice-relend-prefix-small c = search needs
 
-slice-aggregate-small-3 : tie.Need-slice-aggregate-small-3
-slice-aggregate-small-3 c =
+slice-aggregate-small : tie.Need-slice-aggregate-small
+slice-aggregate-small c =
     let s = c .before .before .before .before .before .before .before in
     sym (length-take-le 128 (s .args .out .now) (s .pre .1))
 
@@ -45,10 +39,8 @@ values-small-spec =
     (tie.spec
     roots-requires
     added-small-requires
-    slice-aggregate-small
-    slice-aggregate-small-2
     slice-relend-prefix-small
-    slice-aggregate-small-3
+    slice-aggregate-small
     small-requires
     same-length
     returns)

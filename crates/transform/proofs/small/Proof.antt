@@ -14,13 +14,13 @@ use Rattle.transform.proofs.small.Tie as tie
 
 -- The place where the function starts, from the place after each call.
 abbrev start-begin : tie.After-begin → tie.Start
-start-begin c = c .before .before .before .before .before .before
+start-begin c = c .before .before .before .before
 
 abbrev start-columns : tie.After-columns → tie.Start
-start-columns c = start-begin (c .before .before .before .before)
+start-columns c = start-begin (c .before .before .before .before .before)
 
 abbrev start-columns2 : tie.After-columns2 → tie.Start
-start-columns2 c = start-columns (c .before .before .before .before)
+start-columns2 c = start-columns (c .before .before .before .before .before)
 
 abbrev start-shuffle : tie.After-shuffle → tie.Start
 start-shuffle c = start-columns2 (c .before .before .before .before)
@@ -32,33 +32,33 @@ abbrev start-shuffle3 : tie.After-shuffle3 → tie.Start
 start-shuffle3 c = start-shuffle2 (c .before .before .before .before)
 
 abbrev start-rows : tie.After-rows → tie.Start
-start-rows c = start-shuffle3 (c .before .before .before .before)
+start-rows c = start-shuffle3 (c .before .before .before .before .before)
 
 abbrev start-rows2 : tie.After-rows2 → tie.Start
-start-rows2 c = start-rows (c .before .before .before .before)
+start-rows2 c = start-rows (c .before .before .before .before .before)
 
 abbrev start-rows3 : tie.After-rows3 → tie.Start
-start-rows3 c = start-rows2 (c .before .before .before .before)
+start-rows3 c = start-rows2 (c .before .before .before .before .before)
 
 abbrev start-rows4 : tie.After-rows4 → tie.Start
-start-rows4 c = start-rows3 (c .before .before .before .before)
+start-rows4 c = start-rows3 (c .before .before .before .before .before)
 
 abbrev start-finish : tie.After-finish → tie.Start
-start-finish c = start-rows4 (c .before .before .before .before)
+start-finish c = start-rows4 (c .before .before .before .before .before)
 
 -- The level that each call leaves.
 level-2 : (c : tie.After-begin) → Level (bytes (start-begin c .args .block .now)) 128 64 2 255 (λ k q. k * 64 + q) (c .begin .last .1 .0)
 level-2 c =
     let s = start-begin c in
-    first-level (s .args .block .now) (c .begin .last .1 .0) 64 (s .pre .0 .0) (λ i. omega (arith, c .before .before .before .before .before .shared-slice-known .given i)) (c .begin .ensures)
+    first-level (s .args .block .now) (c .begin .last .1 .0) 64 (s .pre .0 .0) (λ i. omega (arith, c .before .before .before .shared-slice-known .given i)) (c .begin .ensures)
 
 level-4 : (c : tie.After-columns) → Level (bytes (start-columns c .args .block .now)) 64 32 4 769 (λ k q. k * 32 + q) (c .columns .last .1 .0)
 unfolding Leads
-level-4 c = c .columns .ensures (bytes (start-columns c .args .block .now)) 6 255 refl (level-2 (c .before .before .before .before))
+level-4 c = c .columns .ensures (bytes (start-columns c .args .block .now)) 6 255 refl (level-2 (c .before .before .before .before .before))
 
 level-8-columns : (c : tie.After-columns2) → Level (bytes (start-columns2 c .args .block .now)) 32 16 8 1283 (λ k q. k * 16 + q) (c .columns2 .last .1 .0)
 unfolding Leads
-level-8-columns c = c .columns2 .ensures (bytes (start-columns2 c .args .block .now)) 5 769 refl (level-4 (c .before .before .before .before))
+level-8-columns c = c .columns2 .ensures (bytes (start-columns2 c .args .block .now)) 5 769 refl (level-4 (c .before .before .before .before .before))
 
 level-8 : (c : tie.After-shuffle3) → Level (bytes (start-shuffle3 c .args .block .now)) 32 16 8 1283 (λ k q. q * 8 + k) (c .shuffle3 .last .1 .0)
 level-8 c =
@@ -70,19 +70,19 @@ level-8 c =
 
 level-16 : (c : tie.After-rows) → Level (bytes (start-rows c .args .block .now)) 16 8 16 1797 (λ k q. q * 16 + k) (c .rows .last .1 .0)
 unfolding Leads
-level-16 c = c .rows .ensures (bytes (start-rows c .args .block .now)) 4 1283 refl (level-8 (c .before .before .before .before))
+level-16 c = c .rows .ensures (bytes (start-rows c .args .block .now)) 4 1283 refl (level-8 (c .before .before .before .before .before))
 
 level-32 : (c : tie.After-rows2) → Level (bytes (start-rows2 c .args .block .now)) 8 4 32 2311 (λ k q. q * 32 + k) (c .rows2 .last .1 .0)
 unfolding Leads
-level-32 c = c .rows2 .ensures (bytes (start-rows2 c .args .block .now)) 3 1797 refl (level-16 (c .before .before .before .before))
+level-32 c = c .rows2 .ensures (bytes (start-rows2 c .args .block .now)) 3 1797 refl (level-16 (c .before .before .before .before .before))
 
 level-64 : (c : tie.After-rows3) → Level (bytes (start-rows3 c .args .block .now)) 4 2 64 2825 (λ k q. q * 64 + k) (c .rows3 .last .1 .0)
 unfolding Leads
-level-64 c = c .rows3 .ensures (bytes (start-rows3 c .args .block .now)) 2 2311 refl (level-32 (c .before .before .before .before))
+level-64 c = c .rows3 .ensures (bytes (start-rows3 c .args .block .now)) 2 2311 refl (level-32 (c .before .before .before .before .before))
 
 level-128 : (c : tie.After-rows4) → Level (bytes (start-rows4 c .args .block .now)) 2 1 128 3339 (λ k q. q * 128 + k) (c .rows4 .last .1 .0)
 unfolding Leads
-level-128 c = c .rows4 .ensures (bytes (start-rows4 c .args .block .now)) 1 2825 refl (level-64 (c .before .before .before .before))
+level-128 c = c .rows4 .ensures (bytes (start-rows4 c .args .block .now)) 1 2825 refl (level-64 (c .before .before .before .before .before))
 
 slice-aggregate-begin : tie.Need-slice-aggregate-begin
 slice-aggregate-begin c = search needs
@@ -98,8 +98,8 @@ slice-aggregate-columns-2 c = search needs
 
 columns-requires : tie.Need-columns-requires
 columns-requires c κs =
-    let level = level-2 (c .before .before .before) in
-    (refl, ((omega arith, omega arith), ((omega arith, start-begin (c .before .before .before) .pre .1 .0), (λ k q hk hq. omega (arith, level .bound k q hk hq)))))
+    let level = level-2 (c .before .before .before .before) in
+    (refl, ((omega arith, omega arith), ((omega arith, start-begin (c .before .before .before .before) .pre .1 .0), (λ k q hk hq. omega (arith, level .bound k q hk hq)))))
 
 slice-aggregate-columns-3 : tie.Need-slice-aggregate-columns-3
 slice-aggregate-columns-3 c = search needs
@@ -109,8 +109,8 @@ slice-aggregate-columns-4 c = search needs
 
 columns-requires-2 : tie.Need-columns-requires-2
 columns-requires-2 c κs =
-    let level = level-4 (c .before .before .before) in
-    (refl, ((omega arith, omega arith), ((omega arith, start-columns (c .before .before .before) .pre .1 .0), (λ k q hk hq. omega (arith, level .bound k q hk hq)))))
+    let level = level-4 (c .before .before .before .before) in
+    (refl, ((omega arith, omega arith), ((omega arith, start-columns (c .before .before .before .before) .pre .1 .0), (λ k q hk hq. omega (arith, level .bound k q hk hq)))))
 
 slice-aggregate-shuffle : tie.Need-slice-aggregate-shuffle
 slice-aggregate-shuffle c = search needs
@@ -147,8 +147,8 @@ slice-aggregate-rows-2 c = search needs
 
 rows-requires : tie.Need-rows-requires
 rows-requires c κs =
-    let level = level-8 (c .before .before .before) in
-    (refl, ((omega arith, omega arith), ((omega arith, start-shuffle3 (c .before .before .before) .pre .1 .0), (λ k q hk hq. omega (arith, level .bound k q hk hq)))))
+    let level = level-8 (c .before .before .before .before) in
+    (refl, ((omega arith, omega arith), ((omega arith, start-shuffle3 (c .before .before .before .before) .pre .1 .0), (λ k q hk hq. omega (arith, level .bound k q hk hq)))))
 
 slice-aggregate-rows-3 : tie.Need-slice-aggregate-rows-3
 slice-aggregate-rows-3 c = search needs
@@ -158,8 +158,8 @@ slice-aggregate-rows-4 c = search needs
 
 rows-requires-2 : tie.Need-rows-requires-2
 rows-requires-2 c κs =
-    let level = level-16 (c .before .before .before) in
-    (refl, ((omega arith, omega arith), ((omega arith, start-rows (c .before .before .before) .pre .1 .0), (λ k q hk hq. omega (arith, level .bound k q hk hq)))))
+    let level = level-16 (c .before .before .before .before) in
+    (refl, ((omega arith, omega arith), ((omega arith, start-rows (c .before .before .before .before) .pre .1 .0), (λ k q hk hq. omega (arith, level .bound k q hk hq)))))
 
 slice-aggregate-rows-5 : tie.Need-slice-aggregate-rows-5
 slice-aggregate-rows-5 c = search needs
@@ -169,8 +169,8 @@ slice-aggregate-rows-6 c = search needs
 
 rows-requires-3 : tie.Need-rows-requires-3
 rows-requires-3 c κs =
-    let level = level-32 (c .before .before .before) in
-    (refl, ((omega arith, omega arith), ((omega arith, start-rows2 (c .before .before .before) .pre .1 .0), (λ k q hk hq. omega (arith, level .bound k q hk hq)))))
+    let level = level-32 (c .before .before .before .before) in
+    (refl, ((omega arith, omega arith), ((omega arith, start-rows2 (c .before .before .before .before) .pre .1 .0), (λ k q hk hq. omega (arith, level .bound k q hk hq)))))
 
 slice-aggregate-rows-7 : tie.Need-slice-aggregate-rows-7
 slice-aggregate-rows-7 c = search needs
@@ -180,16 +180,16 @@ slice-aggregate-rows-8 c = search needs
 
 rows-requires-4 : tie.Need-rows-requires-4
 rows-requires-4 c κs =
-    let level = level-64 (c .before .before .before) in
-    (refl, ((omega arith, omega arith), ((omega arith, start-rows3 (c .before .before .before) .pre .1 .0), (λ k q hk hq. omega (arith, level .bound k q hk hq)))))
+    let level = level-64 (c .before .before .before .before) in
+    (refl, ((omega arith, omega arith), ((omega arith, start-rows3 (c .before .before .before .before) .pre .1 .0), (λ k q hk hq. omega (arith, level .bound k q hk hq)))))
 
 slice-aggregate-finish : tie.Need-slice-aggregate-finish
 slice-aggregate-finish c = search needs
 
 finish-requires : tie.Need-finish-requires
 finish-requires c κs =
-    let s = start-rows4 (c .before .before .before) in
-    let level = level-128 (c .before .before .before) in (
+    let s = start-rows4 (c .before .before .before .before) in
+    let level = level-128 (c .before .before .before .before) in (
       omega arith,
       (
         (ap length (s .pre .1 .1) ∙ length-table _ _, s .pre .0 .1),
@@ -205,7 +205,7 @@ returns c =
     let s = start-finish (c .before .before) in
     let finish = c .before .before .finish in
     transformed small (s .args .last) (s .args .block .now) 2 64 128 3339 (refl, s .pre .0 .0, refl) power-139
-    _ (s .args .added .now) (finish .last .1 .1 .0) (level-128 (c .before .before .before .before .before .before)) (s .pre .1 .1) (omega (arith, finish .kept .1 .1 .0, s .pre .0 .1)) (finish .ensures)
+    _ (s .args .added .now) (finish .last .1 .1 .0) (level-128 (c .before .before .before .before .before .before .before)) (s .pre .1 .1) (omega (arith, finish .kept .1 .1 .0, s .pre .0 .1)) (finish .ensures)
 
 pub small-spec : {M : Type 1} → statement M
 small-spec =

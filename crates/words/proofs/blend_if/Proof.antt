@@ -11,12 +11,9 @@ choice-requires c κs = search needs
 sum-requires-2 : tie.Need-sum-requires-2
 sum-requires-2 c κs = search needs
 
-rotate-requires : tie.Need-rotate-requires
-rotate-requires c κs = search needs
-
 returns : tie.Need-returns
 returns c = cc
 
 pub blend-if-spec : {M : Type 1} → statement M
 blend-if-spec =
-    tie.close (tie.spec sum-requires choice-requires sum-requires-2 rotate-requires returns)
+    tie.close (tie.spec sum-requires choice-requires sum-requires-2 returns)

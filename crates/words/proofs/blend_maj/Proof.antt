@@ -11,12 +11,9 @@ majority-requires c κs = search needs
 sum-requires-2 : tie.Need-sum-requires-2
 sum-requires-2 c κs = search needs
 
-rotate-requires : tie.Need-rotate-requires
-rotate-requires c κs = search needs
-
 returns : tie.Need-returns
 returns c = cc
 
 pub blend-maj-spec : {M : Type 1} → statement M
 blend-maj-spec =
-    tie.close (tie.spec sum-requires majority-requires sum-requires-2 rotate-requires returns)
+    tie.close (tie.spec sum-requires majority-requires sum-requires-2 returns)

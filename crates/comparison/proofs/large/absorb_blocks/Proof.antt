@@ -11,10 +11,10 @@ use Rattle.comparison.proofs.large.absorb_blocks.Statement.{statement}
 use Rattle.comparison.proofs.large.absorb_blocks.Tie as tie
 
 abbrev Inv-loop : tie.InvT-loop
-Inv-loop state₀ bytes count roots added k₀ state k = (k ≤ count) × (state ≡ chain large state₀ (bitsOf bytes) k)
+Inv-loop state₀ bytes count roots added trail₀ k₀ state trail k = (k ≤ count) × (state ≡ chain large state₀ (bitsOf bytes) k)
 
 abbrev μ-loop : tie.MeasureT-loop
-μ-loop state₀ bytes count roots added k₀ state k = count - k
+μ-loop state₀ bytes count roots added trail₀ k₀ state trail k = count - k
 
 loop-holds : tie.Need-loop-holds Inv-loop μ-loop
 unfolding chain
@@ -28,8 +28,8 @@ slice-aggregate-compress c = search needs
 
 compress-requires : tie.Need-compress-requires Inv-loop μ-loop
 compress-requires c κs =
-    let tables = c .before .before .before .before .before .before .before .before .pre .1 in
-    ((length-block large _ _ (c .before .before .block .ensures), tables .rooted), tables .constant)
+    let tables = c .before .before .before .before .before .before .before .pre .1 in
+    ((length-block large _ _ (c .before .before .before .block .ensures), tables .rooted), tables .constant)
 
 add-k : tie.Need-add-k Inv-loop μ-loop
 add-k c = omega arith
@@ -39,12 +39,12 @@ loop-less c = omega arith
 
 loop-again : tie.Need-loop-again Inv-loop μ-loop
 loop-again c =
-    (omega arith, one-more large _ _ _ (c .compress .ensures) (c .before .before .before .before .before .loop .inv .1) (c .before .before .before .block .ensures))
+    (omega arith, one-more large _ _ _ (c .compress .ensures) (c .before .before .before .before .before .before .loop .inv .1) (c .before .before .before .before .block .ensures))
 
 returns : tie.Need-returns Inv-loop μ-loop
 returns c =
     let inv = c .before .loop .inv .1 in
-    let all : c .before .loop .k ≡ c .before .before .before .before .before .args .count = omega arith in
+    let all : c .before .loop .k ≡ c .before .before .before .args .count = omega arith in
     inv ∙ ap (chain large _ _) all
 
 pub absorb-blocks-spec : {M : Type 1} → statement M

@@ -28,8 +28,8 @@ flat-requires c κs = search needs
 returns : tie.Need-returns
 returns c =
     let p = c .before .before .before .before .before .before .before .before .before .before .before .before .before .args in
-    compressed small (p .last) (p .state .now) (p .block .now) (c .before .before .before .before .before .before .before .split .ensures) (c .before .before .before .before .before .before .mixed .ensures) (c .before .before .before .before .before .split2 .ensures) (c .before .before .before .before .before .before .before .before .expand-small .ensures)
-    (c .before .before .before .steps .ensures) (c .before .last-steps .ensures) (c .flat .ensures)
+    compressed small (p .last) (p .state .now) (p .block .now) (c .before .before .before .before .before .before .before .before .before .split .ensures) (c .before .before .before .before .before .before .before .before .mixed .ensures) (c .before .before .before .before .before .before .before .split2 .ensures) (c .before .before .before .before .before .before .before .before .before .before .expand-small .ensures)
+    (c .before .before .before .before .steps .ensures) (c .before .last-steps .ensures) (c .flat .ensures)
 
 pub compress-spec : {M : Type 1} → statement M
 compress-spec =

@@ -3,8 +3,8 @@ use native.Mathlib.Omega.{arith}
 use denote.Ref.{now}
 use lib.ListN.{length-take}
 use Rattle.comparison.proofs.RefusalLaws.{accepted, used}
-use Rattle.comparison.proofs.checks.used_part.Statement.{statement}
-use Rattle.comparison.proofs.checks.used_part.Tie as tie
+use Rattle.comparison.proofs.pairs.used_part.Statement.{statement}
+use Rattle.comparison.proofs.pairs.used_part.Tie as tie
 
 add-end : tie.Need-add-end
 add-end c = omega (arith, accepted _ _ (c .pre) .short)
