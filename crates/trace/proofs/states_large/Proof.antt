@@ -19,12 +19,6 @@ roots-requires c κs = search needs
 added-large-requires : tie.Need-added-large-requires Inv-loop μ-loop
 added-large-requires c κs = search needs
 
-slice-aggregate-expand-large : tie.Need-slice-aggregate-expand-large Inv-loop μ-loop
-slice-aggregate-expand-large c = search needs
-
-slice-aggregate-expand-large-2 : tie.Need-slice-aggregate-expand-large-2 Inv-loop μ-loop
-slice-aggregate-expand-large-2 c = search needs
-
 expand-large-requires : tie.Need-expand-large-requires Inv-loop μ-loop
 expand-large-requires c κs = search needs
 
@@ -93,8 +87,6 @@ states-large-spec =
     μ-loop
     roots-requires
     added-large-requires
-    slice-aggregate-expand-large
-    slice-aggregate-expand-large-2
     expand-large-requires
     slice-aggregate-read
     read-requires

@@ -19,12 +19,6 @@ roots-requires c κs = search needs
 added-small-requires : tie.Need-added-small-requires Inv-loop μ-loop
 added-small-requires c κs = search needs
 
-slice-aggregate-expand-small : tie.Need-slice-aggregate-expand-small Inv-loop μ-loop
-slice-aggregate-expand-small c = search needs
-
-slice-aggregate-expand-small-2 : tie.Need-slice-aggregate-expand-small-2 Inv-loop μ-loop
-slice-aggregate-expand-small-2 c = search needs
-
 expand-small-requires : tie.Need-expand-small-requires Inv-loop μ-loop
 expand-small-requires c κs = search needs
 
@@ -93,8 +87,6 @@ states-small-spec =
     μ-loop
     roots-requires
     added-small-requires
-    slice-aggregate-expand-small
-    slice-aggregate-expand-small-2
     expand-small-requires
     slice-aggregate-read
     read-requires
