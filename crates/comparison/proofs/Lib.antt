@@ -1,10 +1,1 @@
-pub mod ListLaws
-pub mod MessageLaws
-pub mod RefusalLaws
-pub mod ByteLaws
-pub mod PairLaws
-pub mod FoundLaws
-pub mod BlockLaws
-pub mod LockstepLaws
-pub mod AnswerLaws
 pub mod Theorems

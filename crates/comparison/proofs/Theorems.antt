@@ -15,14 +15,14 @@ use Rattle.simd.specs.Constants.{start}
 use Rattle.simd.specs.Message.{message, messageBlocks}
 use Rattle.simd.specs.Steps.{compression}
 use Rattle.simd.specs.Hash.{finalState, compressions}
-use Rattle.comparison.specs.Pairs.{stateAt, blockAt}
-use Rattle.comparison.specs.Compared.{Found, same, apart, meet, common, found, compared}
-use Rattle.comparison.specs.Answer.{refusal, verdict, answer}
-use Rattle.comparison.specs.declared.Verdict.the-variants.{Same, Apart, Meet}
-use Rattle.comparison.proofs.ByteLaws.{is-message, length-message}
-use Rattle.comparison.proofs.RefusalLaws.{Accepted, accepted}
-use Rattle.comparison.proofs.PairLaws.{first-state, out-of-message, out-of-length}
-use Rattle.comparison.proofs.FoundLaws as laws
+use Rattle.pairs.specs.Pairs.{stateAt, blockAt}
+use Rattle.pairs.specs.Compared.{Found, same, apart, meet, common, found, compared}
+use Rattle.pairs.specs.Answer.{refusal, verdict, answer}
+use Rattle.pairs.specs.declared.Verdict.the-variants.{Same, Apart, Meet}
+use Rattle.pairs.proofs.ByteLaws.{is-message, length-message}
+use Rattle.pairs.proofs.RefusalLaws.{Accepted, accepted}
+use Rattle.pairs.proofs.PairLaws.{first-state, out-of-message, out-of-length}
+use Rattle.pairs.proofs.FoundLaws as laws
 
 -- The pairs of a message are those of its compressions: the starting state goes into the first block, what comes out of a message block goes
 -- into the next block, and what comes out of the length block is the final state.

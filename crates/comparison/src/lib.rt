@@ -1,26 +1,16 @@
 // The comparison of two messages: Same, Apart, or Meet with the number of the block.
 //
 // The longer message first absorbs its extra leading blocks alone. From there on both have the same number, counted back from the length
-// block, and go on side by side: before each compression the pairs of state and block are compared, and the last number at which they
-// differ is kept.
-mod large;
-mod pairs;
-mod small;
-
+// block, and go on side by side: before each compression the pairs of state and block are compared. Equal pairs are compressed once, and the
+// last number at which pairs differ is kept.
+use pairs::Verdict;
 ghost use mathlib.Core.Bool.{true};
 ghost use mathlib.Core.Path.{_≡_};
 ghost use Rattle.simd.specs.Basic.{isWidth};
 ghost use Rattle.simd.specs.Message.{message};
-ghost use Rattle.comparison.specs.Compared.{compared};
+ghost use Rattle.pairs.specs.Compared.{compared};
 ghost use Rattle.hash.specs.Open.{pieceRefusal};
-ghost use Rattle.comparison.specs.Answer.{verdict, answer};
-
-pub enum Verdict {
-    Same,
-    Apart,
-    Meet(u64),
-    Refused(u8),
-}
+ghost use Rattle.pairs.specs.Answer.{verdict, answer};
 
 // The comparison at one of the four widths of two messages that break no rule.
 fn compare_width(width: u16, a: &[u8], m: u64, b: &[u8], n: u64) -> Verdict
@@ -28,15 +18,15 @@ fn compare_width(width: u16, a: &[u8], m: u64, b: &[u8], n: u64) -> Verdict
     ensures { λ r. ⌜ r ≡ verdict 0 (compared width (message (now (a .entry)) m) (message (now (b .entry)) n)) ⌝ }
 {
     if width == 224 {
-        return small::compare(compression::start_224(), a, m, b, n);
+        return comparison_small::compare(compression::start_224(), a, m, b, n);
     }
     if width == 256 {
-        return small::compare(compression::start_256(), a, m, b, n);
+        return comparison_small::compare(compression::start_256(), a, m, b, n);
     }
     if width == 384 {
-        return large::compare(compression::start_384(), a, m, b, n);
+        return comparison_large::compare(compression::start_384(), a, m, b, n);
     }
-    large::compare(compression::start_512(), a, m, b, n)
+    comparison_large::compare(compression::start_512(), a, m, b, n)
 }
 
 // Compares two messages at a width.

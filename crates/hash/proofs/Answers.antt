@@ -19,8 +19,10 @@ use Rattle.laws.proofs.Bits.{getD-bitsOf, length-bitsOf}
 use Rattle.laws.proofs.Chain.{length-compression}
 use Rattle.laws.proofs.LittleEndian.{length-bytesOf}
 use Rattle.tail.specs.Zero.{clear, padded}
+use Rattle.form.specs.Numbers.{littleEndian, formWidth, formBits}
+use Rattle.form.proofs.Writing.{state-bytes}
 use Rattle.hash.specs.Open.{limit, family, used, reached, pending, holding, legal, openRefusal, opened, openAnswer, fullBlocks, advanced, pieceRefusal, feedRefusal, fed, feedAnswer, finalOf, digestOf, takeRefusal, taken, takeAnswer, written}
-use Rattle.hash.specs.Form.{littleEndian, formBytes, formOf, formWidth, formBits, formFamily, hashOf, storeRefusal, storeAnswer, restoreRefusal, restoreAnswer}
+use Rattle.hash.specs.Form.{formBytes, formOf, formFamily, hashOf, storeRefusal, storeAnswer, restoreRefusal, restoreAnswer}
 use Rattle.tail.specs.Shift.{Ready, joinedBits}
 use Rattle.hash.specs.declared.Hash.{Hash}
 use Rattle.tail.proofs.Zeros.{padded-take}
@@ -29,8 +31,7 @@ use Rattle.tail.proofs.Parts.{back}
 use Rattle.hash.proofs.Holding.{legal-width, legal-state, legal-tail, length-reached}
 use Rattle.hash.proofs.Feeding.{length-message}
 use Rattle.hash.proofs.Storing.{passed}
-use Rattle.hash.proofs.Theorems.{digest-room, digest-length}
-use Rattle.hash.proofs.Writing.{state-bytes}
+use Rattle.hash.proofs.Digests.{digest-room, digest-length}
 
 -- Refusals.
 fed-refused : (r : ℕ) (h : Hash) (m : List ℕ) → (r ≡ 0 → ⊥) → record { hash = h; blocks = 0; refusal = r } ≡ fed r h m

@@ -1,9 +1,7 @@
 pub mod Holding
 pub mod Feeding
 pub mod Storing
-pub mod Theorems
+pub mod Digests
 pub mod Refusing
 pub mod Starting
-pub mod Writing
-pub mod Forming
 pub mod Answers

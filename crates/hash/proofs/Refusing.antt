@@ -2,15 +2,17 @@
 use mathlib.Core.Bool.{true, false, cond}
 use mathlib.Core.List.{List}
 use mathlib.Core.Path.{_≡_}
-use Prim.Native.Nat.{ℕ, _+_, _*_, _-_, _/_, _<_, _≤_}
+use Prim.Native.Nat.{ℕ, _+_, _*_, _-_, _/_, _%_, _<_, _≤_}
 use native.Mathlib.Omega.{arith}
-use borrow.Author.Tests.{le-leb, lt-leb}
+use borrow.Author.Tests.{le-leb, lt-leb, eq-eqb, ne-eqb}
 use lib.Dec.{leb}
 use lib.ListN.{length, take, drop}
-use Rattle.simd.specs.Basic.{Family, isWidth, blockBytes, stateWords}
+use Rattle.simd.specs.Basic.{Family, familyOf, isWidth, blockBytes, blockBits, stateWords}
 use Rattle.tail.specs.Zero.{allZero, clear}
+use Rattle.tail.proofs.Parts.{back}
+use Rattle.form.specs.Numbers.{formWidth, formBits}
 use Rattle.hash.specs.Open.{limit, family, used, legal, pieceRefusal, feedRefusal, takeRefusal}
-use Rattle.hash.specs.Form.{formBytes, storeRefusal}
+use Rattle.hash.specs.Form.{formBytes, storeRefusal, restoreRefusal}
 use Rattle.hash.specs.declared.Hash.{Hash}
 
 -- Words of a state of 16 R bytes.
@@ -79,3 +81,25 @@ room-fits a b within = rw (le-leb a b within)
 
 pub room-short : (a b : ℕ) → b < a → _≡_ {A = ℕ} (cond (leb a b) 0 6) 6
 room-short a b short = rw (lt-leb a b short)
+
+-- The ways out of the check of a form.
+module _ (form : List ℕ) where
+  pub form-short : length form < 2 → 8 ≡ restoreRefusal form
+  unfolding restoreRefusal
+  form-short short = rw (lt-leb 2 (length form) short)
+
+  module _ (long : 2 ≤ length form) (width : ℕ) (same : width ≡ formWidth form) where
+    pub form-unknown : isWidth width ≡ false → 1 ≡ restoreRefusal form
+    unfolding restoreRefusal
+    form-unknown unknown = rw (le-leb 2 (length form) long, ← same, unknown)
+
+    module _ (known : isWidth width ≡ true) where
+      pub form-size : (length form ≡ formBytes (familyOf width) → ⊥) → 8 ≡ restoreRefusal form
+      unfolding restoreRefusal
+      form-size other = rw (le-leb 2 (length form) long, ← same, known, ne-eqb (length form) (formBytes (familyOf width)) other)
+
+      pub form-decides : (middle used : ℕ) → middle ≡ 6 + blockBytes (familyOf width) → used ≡ formBits form % blockBits (familyOf width)
+          → length form ≡ formBytes (familyOf width) → cond (clear used (take (length form - middle) (drop middle form))) 0 9 ≡ restoreRefusal form
+      unfolding restoreRefusal
+      form-decides middle used half left size =
+          rw (back middle form, le-leb 2 (length form) long, ← same, known, eq-eqb (length form) (formBytes (familyOf width)) size, half, left)

@@ -3,42 +3,24 @@ use mathlib.Core.Bool.{Bool, true, false, cond}
 use mathlib.Core.List.{List, _++_, append-assoc}
 use mathlib.Core.Path.{_≡_, refl, sym, ap, _∙_}
 use Prim.Native.Nat.{ℕ, suc, _+_, _*_, _-_, _/_, _%_, _^_, _<_, _≤_}
-use native.Mathlib.Nat.{mod-eq-of-lt}
 use native.Mathlib.Omega.{arith}
 use native.Mathlib.Decide.{decLt}
 use borrow.Author.Tests.{le-leb, eq-eqb, eqb-true}
 use lib.Dec.{leb, eqb, lit<}
-use lib.ListN.{length, getD, take, drop, length-take, length-drop, length-append, take-append-drop, List·getD-append}
+use lib.ListN.{length, getD, take, drop, length-take, length-drop, length-append, take-append-drop}
 use lib.Seq.{getD-drop, getD-take, drop-at, take-add}
 use Rattle.simd.specs.Basic.{familyOf, isWidth, blockBytes, blockBits, stateWords, wordsOf, bytesOf}
-use Rattle.laws.proofs.Table.{length-table, getD-table, table-of}
-use Rattle.laws.proofs.Sum.{sum-ext}
 use Rattle.laws.proofs.Bits.{getD-bitsOf, getD-take-past}
-use Rattle.laws.proofs.LittleEndian.{digits-sum, sum-digits, length-bytesOf, length-wordsOf, words-bytes, bytes-words, sum-lt, wordsOf-fit}
+use Rattle.laws.proofs.LittleEndian.{length-bytesOf, length-wordsOf, words-bytes, bytes-words, sum-lt, wordsOf-fit}
 use Rattle.tail.specs.Zero.{allZero, clear, padded}
+use Rattle.form.specs.Numbers.{littleEndian, number, formWidth, formBits}
+use Rattle.form.proofs.Writing.{length-littleEndian, number-written, number-read}
 use Rattle.hash.specs.Open.{family, used, reached, legal}
-use Rattle.hash.specs.Form.{littleEndian, number, formBytes, formOf, formWidth, formBits, formFamily, hashOf, restoreRefusal}
+use Rattle.hash.specs.Form.{formBytes, formOf, formFamily, hashOf, restoreRefusal}
 use Rattle.hash.specs.declared.Hash.{Hash}
 use Rattle.tail.proofs.Zeros.{clear-at, clear-of, take-padded, padded-past, padded-take, getD-padded, length-padded}
 use Rattle.tail.proofs.Sizes.{words-within, bytes-within, bytes-past, block-within}
 use Rattle.hash.proofs.Holding.{Value, length-reached, legal-width, legal-state, legal-tail}
-
--- Numbers written and read.
-pub number-written : (n x : ℕ) (rest : List ℕ) → x < 256 ^ n → number n (littleEndian n x ++ rest) ≡ x
-unfolding number littleEndian
-number-written n x rest fits =
-    sum-ext n (λ t. getD (littleEndian n x ++ rest) t 0 * 256 ^ t) (λ t. x / 256 ^ t % 256 * 256 ^ t)
-    (λ t below.
-    ap (λ (b : ℕ). b * 256 ^ t)
-    (List·getD-append (littleEndian n x) rest 0 t (omega (arith, length-table n (λ t. x / 256 ^ t % 256)))
-    ∙ getD-table n (λ t. x / 256 ^ t % 256) t 0 below))
-    ∙ digits-sum n x ∙ mod-eq-of-lt fits
-
-pub number-read : (n : ℕ) (bytes : List ℕ) → ((i : ℕ) → getD bytes i 0 < 256) → n ≤ length bytes → littleEndian n (number n bytes) ≡ take n bytes
-unfolding number littleEndian
-number-read n bytes fits long =
-    sym (table-of 0 n (λ t. number n bytes / 256 ^ t % 256) (take n bytes) (omega (arith, length-take n bytes))
-    (λ t below. getD-take n bytes t 0 below ∙ sym (sum-digits n (λ t. getD bytes t 0) (λ i _. fits i) t below)))
 
 -- Byte strings with the same bytes, and zeros after them, are clear from the same places on.
 pub clear-same : (n : ℕ) (a b : List ℕ) → ((j : ℕ) → getD a j 0 ≡ getD b j 0) → clear n a ≡ true → clear n b ≡ true
@@ -67,10 +49,6 @@ rebuilt width bits form =
       state = padded 32 (wordsOf (stateWords (familyOf width)) (drop 6 form));
       tail = padded 128 (drop (6 + blockBytes (familyOf width)) form);
     }
-
-pub length-littleEndian : (n x : ℕ) → length (littleEndian n x) ≡ n
-unfolding littleEndian
-length-littleEndian n x = length-table n (λ t. x / 256 ^ t % 256)
 
 -- A form of four parts.
 module _ (a b s t : List ℕ) (z : ℕ) (two : length a ≡ 2) (four : length b ≡ 4) (block : length s ≡ z) where

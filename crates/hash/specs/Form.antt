@@ -1,22 +1,16 @@
 -- The stored form: width (2 bytes), bit length (4 bytes), state, and one block with the tail and zeros. Numbers are little endian.
 use mathlib.Core.Bool.{cond}
 use mathlib.Core.List.{List, _++_}
-use Prim.Native.Nat.{ℕ, _+_, _*_, _/_, _%_, _^_}
+use Prim.Native.Nat.{ℕ, _+_, _*_, _%_}
 use lib.Dec.{leb, eqb}
-use lib.ListN.{length, getD, take, drop}
-use Rattle.simd.specs.Basic.{Family, familyOf, isWidth, blockBytes, blockBits, stateWords, wordsOf, bytesOf, table, sum}
+use lib.ListN.{length, take, drop}
+use Rattle.simd.specs.Basic.{Family, familyOf, isWidth, blockBytes, blockBits, stateWords, wordsOf, bytesOf}
 use Rattle.tail.specs.Zero.{clear, padded}
+use Rattle.form.specs.Numbers.{littleEndian, formWidth, formBits}
 use Rattle.hash.specs.Open.{family, legal, reached, opened}
 use Rattle.hash.specs.declared.Hash.{Hash}
 use Rattle.hash.specs.declared.Opened.{Opened}
 use Rattle.hash.specs.declared.Stored.{Stored}
-
--- A number in n bytes, and the number that the first n bytes are.
-unfoldable pub littleEndian : ℕ → ℕ → List ℕ
-littleEndian n x = table n (λ t. x / 256 ^ t % 256)
-
-unfoldable pub number : ℕ → List ℕ → ℕ
-number n bytes = sum n (λ t. getD bytes t 0 * 256 ^ t)
 
 -- The bytes of a form.
 abbrev pub formBytes : Family → ℕ
@@ -32,13 +26,7 @@ storeRefusal h out = cond (legal h) (cond (leb (formBytes (family h)) (length ou
 unfoldable pub storeAnswer : Hash → List ℕ → Stored
 storeAnswer h out = record { hash = h; refusal = storeRefusal h out }
 
--- What a form says, place by place.
-unfoldable pub formWidth : List ℕ → ℕ
-formWidth form = number 2 form
-
-unfoldable pub formBits : List ℕ → ℕ
-formBits form = number 4 (drop 2 form)
-
+-- What a form says.
 abbrev pub formFamily : List ℕ → Family
 formFamily form = familyOf (formWidth form)
 

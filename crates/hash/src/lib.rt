@@ -3,15 +3,13 @@
 // no buffer is written to, and the rest of the answer is 0.
 
 ghost use mathlib.Core.Path.{_≡_};
-ghost use mathlib.Core.List.{[], _++_};
-ghost use Prim.Native.Nat.{_+_, _*_, _≤_};
-ghost use lib.ListN.{length, take, drop};
-ghost use Rattle.simd.specs.Basic.{bytesOf, wordsOf, table};
+ghost use mathlib.Core.List.{[]};
+ghost use Rattle.simd.specs.Basic.{table};
 ghost use Rattle.simd.specs.Constants.{start};
 ghost use Rattle.simd.specs.Message.{byteOf};
 ghost use Rattle.tail.specs.Zero.{padded};
 ghost use Rattle.hash.specs.Open.{holding, legal, openAnswer, pieceRefusal, feedRefusal, feedAnswer, digestOf, takeRefusal, takeAnswer, written};
-ghost use Rattle.hash.specs.Form.{littleEndian, number, formWidth, formOf, storeRefusal, storeAnswer, restoreRefusal, restoreAnswer};
+ghost use Rattle.hash.specs.Form.{formOf, storeRefusal, storeAnswer, restoreRefusal, restoreAnswer};
 
 // The longest message, in bits.
 const LIMIT: usize = 4294967295;
@@ -92,6 +90,27 @@ fn feed_refusal(hash: Hash, piece: &[u8], count: usize) -> u8
     }
 }
 
+// The answer to a piece that is refused.
+fn not_fed(hash: Hash, refusal: u8) -> Fed
+    ensures { λ r. ⌜ (r .hash ≡ hash) × (r .blocks ≡ 0) × (r .refusal ≡ refusal) ⌝ }
+{
+    let width = hash.width;
+    let bits = hash.bits;
+    let state = hash.state;
+    let kept = hash.tail;
+    let hash = Hash {
+        width,
+        bits,
+        state,
+        tail: kept,
+    };
+    Fed {
+        hash,
+        blocks: 0,
+        refusal,
+    }
+}
+
 fn take_refusal(hash: Hash, out: &[u8]) -> u8
     ensures { λ r. ⌜ r ≡ takeRefusal hash (now (out .entry)) ⌝ }
 {
@@ -155,104 +174,6 @@ fn start_state(width: u16) -> [u32; 32]
     compression::start_512()
 }
 
-// Writes the bytes of words, low byte first, as many as the buffer takes.
-fn write_words(out: &mut [u8], words: [u32; 32])
-    requires { ⌜ length (now out) ≤ 128 ⌝ }
-    ensures { λ _. ⌜ now (out .exit) ≡ take (length (now (out .entry))) (bytesOf words) ⌝ }
-{
-    let mut i = 0;
-    while i < out.len() {
-        let word = words[i / 4];
-        out[i] = ((word >> (8 * (i % 4))) % 256) as u8;
-        i += 1;
-    }
-}
-
-// Writes a number, low byte first.
-fn write_number(out: &mut [u8], number: u64)
-    ensures { λ _. ⌜ now (out .exit) ≡ littleEndian (length (now (out .entry))) number ⌝ }
-{
-    let mut rest = number;
-    let mut i = 0;
-    while i < out.len() {
-        out[i] = (rest % 256) as u8;
-        rest = rest / 256;
-        i += 1;
-    }
-}
-
-// Writes the first bytes of a source, as many as the buffer takes.
-fn write_bytes(out: &mut [u8], src: &[u8])
-    requires { ⌜ length (now out) ≤ length (now src) ⌝ }
-    ensures { λ _. ⌜ now (out .exit) ≡ take (length (now (out .entry))) (now (src .entry)) ⌝ }
-{
-    let mut i = 0;
-    while i < out.len() {
-        out[i] = src[i];
-        i += 1;
-    }
-}
-
-// Writes the stored form of a hash.
-fn write_form(width: u16, bits: u32, state: [u32; 32], tail: &[u8], size: usize, out: &mut [u8])
-    requires { ⌜ (length (now out) ≡ 6 + 2 * size) × (size ≤ 128) × (length (now tail) ≡ 128) ⌝ }
-    ensures { λ _. ⌜ now (out .exit)
-        ≡ littleEndian 2 width ++ littleEndian 4 bits ++ take size (bytesOf state) ++ take size (now (tail .entry)) ⌝ }
-{
-    let middle = 6 + size;
-    let end = middle + size;
-    write_number(&mut out[0..2], width as u64);
-    write_number(&mut out[2..6], bits as u64);
-    write_words(&mut out[6..middle], state);
-    write_bytes(&mut out[middle..end], tail);
-}
-
-// A word of a form, low byte first.
-fn read_word(form: &[u8], at: usize) -> u32
-    requires { ⌜ at + 4 ≤ length (now form) ⌝ }
-    ensures { λ r. ⌜ r ≡ number 4 (drop at (now (form .entry))) ⌝ }
-{
-    let a = tail::wide(form[at]) as u32;
-    let b = tail::wide(form[at + 1]) as u32;
-    let c = tail::wide(form[at + 2]) as u32;
-    let d = tail::wide(form[at + 3]) as u32;
-    a + 256 * b + 65536 * c + 16777216 * d
-}
-
-fn read_width(form: &[u8]) -> u16
-    requires { ⌜ 2 ≤ length (now form) ⌝ }
-    ensures { λ r. ⌜ r ≡ formWidth (now (form .entry)) ⌝ }
-{
-    tail::wide(form[0]) + 256 * tail::wide(form[1])
-}
-
-// The state of a form, in so many words.
-fn read_state(form: &[u8], words: usize) -> [u32; 32]
-    requires { ⌜ (words ≤ 32) × (6 + 4 * words ≤ length (now form)) ⌝ }
-    ensures { λ r. ⌜ r ≡ padded 32 (wordsOf words (drop 6 (now (form .entry)))) ⌝ }
-{
-    let mut state = [0u32; 32];
-    let mut i = 0;
-    while i < words {
-        state[i] = read_word(form, 6 + 4 * i);
-        i += 1;
-    }
-    state
-}
-
-fn read_tail(bytes: &[u8]) -> [u8; 128]
-    requires { ⌜ length (now bytes) ≤ 128 ⌝ }
-    ensures { λ r. ⌜ r ≡ padded 128 (now (bytes .entry)) ⌝ }
-{
-    let mut tail = no_tail();
-    let mut i = 0;
-    while i < bytes.len() {
-        tail[i] = bytes[i];
-        i += 1;
-    }
-    tail
-}
-
 fn restore_refusal(form: &[u8]) -> u8
     ensures { λ r. ⌜ r ≡ restoreRefusal (now (form .entry)) ⌝ }
 {
@@ -260,7 +181,7 @@ fn restore_refusal(form: &[u8]) -> u8
     if length < 2 {
         return 8;
     }
-    let width = read_width(form);
+    let width = form::read_width(form);
     if !expansion::is_width(width) {
         return 1;
     }
@@ -270,7 +191,7 @@ fn restore_refusal(form: &[u8]) -> u8
     }
     if tail::bits_zero(
         &form[middle..length],
-        tail::used_bits(width, read_word(form, 2)),
+        tail::used_bits(width, form::read_word(form, 2)),
     ) {
         0
     } else {
@@ -304,11 +225,7 @@ impl Hash {
     {
         let refusal = feed_refusal(self, piece, count);
         if refusal != 0 {
-            return Fed {
-                hash: self,
-                blocks: 0,
-                refusal,
-            };
+            return not_fed(self, refusal);
         }
         let width = self.width;
         let bits = self.bits;
@@ -352,7 +269,7 @@ impl Hash {
         let tail = self.tail;
         let compressed = tail::close(width, bits, &mut state, &tail);
         let length = (width / 8) as usize;
-        write_words(&mut out[0..length], state);
+        form::write_words(&mut out[0..length], state);
         Taken {
             hash: self,
             blocks: compressed,
@@ -378,7 +295,7 @@ impl Hash {
         let tail = self.tail;
         let size = tail::block_bytes(width);
         let length = 6 + 2 * size;
-        write_form(width, bits, state, &tail, size, &mut out[0..length]);
+        form::write_form(width, bits, state, &tail, size, &mut out[0..length]);
         Stored {
             hash: self,
             refusal: 0,
@@ -394,13 +311,13 @@ impl Hash {
             let hash = zero_hash();
             return Opened { hash, refusal };
         }
-        let width = read_width(form);
-        let bits = read_word(form, 2);
+        let width = form::read_width(form);
+        let bits = form::read_word(form, 2);
         let size = tail::block_bytes(width);
-        let state = read_state(form, size / 4);
+        let state = form::read_state(form, size / 4);
         let middle = 6 + size;
         let end = form.len();
-        let tail = read_tail(&form[middle..end]);
+        let tail = form::read_tail(&form[middle..end]);
         let hash = Hash {
             width,
             bits,

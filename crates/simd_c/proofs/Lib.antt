@@ -2,4 +2,3 @@ pub mod Laws
 pub mod Fitting
 pub mod Opening
 pub mod Answers
-pub mod Theorems

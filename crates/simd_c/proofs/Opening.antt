@@ -24,7 +24,8 @@ use Rattle.hash.proofs.Holding.{Value, held-legal}
 use Rattle.hash.proofs.Feeding.{Whole, held-sized, advanced-legal, fed-whole, length-message, bits-message, at-widths, start-length}
 use Rattle.hash.proofs.Refusing.{feed-decides, take-decides}
 use Rattle.hash.proofs.Storing.{passed}
-use Rattle.hash.proofs.Theorems.{Piece, joined, feedAll, open-known, cutting, digest-room}
+use Rattle.hash.proofs.Digests.{digest-room}
+use Rattle.hash_theorems.proofs.Theorems.{Piece, joined, feedAll, open-known, cutting}
 use Rattle.simd_c.proofs.Fitting.{start-fits}
 
 none-used : (f : Family) → 0 ≡ 0 % blockBits f

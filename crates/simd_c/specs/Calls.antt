@@ -10,8 +10,8 @@ use Rattle.hash.specs.Form.{storeAnswer, restoreAnswer}
 use Rattle.hash.specs.declared.Hash.{Hash}
 use Rattle.hash.specs.declared.Fed.{Fed}
 use Rattle.tape.specs.Run.{Run, closed, runFrom, within}
-use Rattle.comparison.specs.declared.Verdict.{Verdict}
-use Rattle.comparison.specs.declared.Verdict.the-variants.{Same, Apart, Meet, Refused}
+use Rattle.pairs.specs.declared.Verdict.{Verdict}
+use Rattle.pairs.specs.declared.Verdict.the-variants.{Same, Apart, Meet, Refused}
 
 -- The first of two refusals that is no 0.
 unfoldable pub first : ℕ → ℕ → ℕ

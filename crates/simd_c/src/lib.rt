@@ -6,14 +6,14 @@ ghost use Rattle.simd.specs.Message.{message as messageOf};
 ghost use Rattle.simd.specs.Hash.{digest};
 ghost use Rattle.hash.specs.Open.{takeAnswer, digestOf, written};
 ghost use Rattle.hash.specs.Form.{formOf, restoreAnswer};
-ghost use Rattle.comparison.specs.Answer.{answer};
+ghost use Rattle.pairs.specs.Answer.{answer};
 ghost use Rattle.expansion.specs.Call.{expandRefusal, expandOutput};
 ghost use Rattle.stepping.specs.Call.{stepsRefusal, stepsOutput, forward, backward};
 ghost use Rattle.tape.specs.Run.{ranOf, output};
 ghost use Rattle.text.specs.Text.{over};
 ghost use Rattle.simd_c.specs.Calls.{stored, openedHash, openCall, fedFrom, feedCall, takeCall, hashRefusal, refusalOf, verdictAfter, blockAfter, runWithin, placed};
-use comparison::Verdict;
 use hash::Hash;
+use pairs::Verdict;
 
 #[no_mangle]
 pub extern "C" fn simd_open(width: u16, form: &mut [u8]) -> u8

@@ -6,7 +6,8 @@ use Prim.Native.Nat.{ℕ, zero, suc, _+_, _-_, _<_, _≤_}
 use native.Mathlib.Omega.{arith}
 use native.Mathlib.Decide.{decLt}
 use borrow.Author.Tests.{eqb-true, eq-eqb}
-use lib.Dec.{eqb}
+use lib.Bits.{bitOr, or-add-and, and-le-l, and-le-r, or-zero-l}
+use lib.Dec.{eqb, eqb·suc-zero}
 use lib.ListN.{length, getD, take, drop, length-take, length-drop, List·getD-eq-default}
 use lib.Seq.{getD-drop, getD-take, ext-getD}
 use Rattle.simd.specs.Message.{bitsOf}
@@ -40,9 +41,6 @@ pub false-of : (b : Bool) → (b ≡ true → ⊥) → b ≡ false
 false-of true never = absurd (never refl)
 false-of false never = refl
 
-pub not-zero : (xs : List ℕ) (i : ℕ) → (getD xs i 0 ≡ 0 → ⊥) → allZero xs ≡ false
-not-zero xs i other = false-of (allZero xs) (λ all. other (zero-at xs all i))
-
 pub past-zero : (n : ℕ) (xs : List ℕ) → allZero (drop n xs) ≡ true → (i : ℕ) → n ≤ i → getD xs i 0 ≡ 0
 past-zero n xs zeros i past =
     let place : n + (i - n) ≡ i = omega arith in
@@ -71,10 +69,37 @@ passed-all n i xs before end =
     all-zero (drop n xs)
     (λ k below. getD-drop n xs k 0 ∙ before (n + k) (omega arith) (omega (arith, length-drop n xs)))
 
-pub found : (n i : ℕ) (xs : List ℕ) → n ≤ i → (getD xs i 0 ≡ 0 → ⊥) → allZero (drop n xs) ≡ false
-found n i xs from other =
-    let place : n + (i - n) ≡ i = omega arith in
-    not-zero (drop n xs) (i - n) (λ zero. other (rw place at (sym (getD-drop n xs (i - n) 0) ∙ zero)))
+-- What the or of all that such a search read says: it is 0 exactly where all of it is.
+pub record Seen (n i : ℕ) (xs : List ℕ) (seen : ℕ) : Type 0 where
+  pub only : seen ≡ 0 → Passed n i xs
+  pub all : Passed n i xs → seen ≡ 0
+
+pub seen-none : (n : ℕ) (xs : List ℕ) → Seen n n xs 0
+seen-none n xs = record { only = λ _. passed-none n xs; all = λ _. refl }
+
+pub seen-more : (n i : ℕ) (xs : List ℕ) (seen : ℕ) → n ≤ i → Seen n i xs seen → Seen n (i + 1) xs (bitOr seen (getD xs i 0))
+unfolding Passed
+seen-more n i xs seen from before =
+    let x = getD xs i 0 in
+    record {
+      only =
+          λ none.
+          let both = or-add-and seen x in
+          let left = and-le-l seen x in
+          let right = and-le-r seen x in
+          passed-more n i xs (before .only (omega (arith, none, both, left, right))) (omega (arith, none, both, left, right));
+      all =
+          λ passed.
+          let left = before .all (λ k first below. passed k first (omega arith)) in
+          let right = passed i from (omega arith) in
+          rw (left, right) (or-zero-l 0);
+    }
+
+pub seen-all : (n i : ℕ) (xs : List ℕ) (seen : ℕ) → Seen n i xs seen → length xs ≤ i → eqb seen 0 ≡ allZero (drop n xs)
+unfolding Passed
+seen-all n i xs zero s end = sym (passed-all n i xs (s .only refl) end)
+seen-all n i xs (suc seen) s end =
+    eqb·suc-zero seen ∙ sym (false-of (allZero (drop n xs)) (λ all. absurd (omega (arith, s .all (λ k first _. past-zero n xs all k first)))))
 
 -- Past place n.
 pub clear-at : (n : ℕ) (bytes : List ℕ) → clear n bytes ≡ true → (i : ℕ) → n ≤ i → getD (bitsOf bytes) i 0 ≡ 0

@@ -27,32 +27,30 @@ pub fn block_bytes(width: u16) -> usize
     if width <= 256 { 64 } else { 128 }
 }
 
-// Whether all words from a place on are 0.
+// Whether all words from a place on are 0. All are read, with no early end, so that the loop becomes vector code.
 pub fn words_zero(words: &[u32], from: usize) -> bool
     ensures { λ r. ⌜ r ≡ allZero (drop from (now (words .entry))) ⌝ }
 {
+    let mut seen = 0u32;
     let mut i = from;
     while i < words.len() {
-        if words[i] != 0 {
-            return false;
-        }
+        seen = seen | words[i];
         i += 1;
     }
-    true
+    seen == 0
 }
 
 // Whether all bytes from a place on are 0.
 fn bytes_zero(bytes: &[u8], from: usize) -> bool
     ensures { λ r. ⌜ r ≡ allZero (drop from (now (bytes .entry))) ⌝ }
 {
+    let mut seen = 0u8;
     let mut i = from;
     while i < bytes.len() {
-        if bytes[i] != 0 {
-            return false;
-        }
+        seen = seen | bytes[i];
         i += 1;
     }
-    true
+    seen == 0
 }
 
 // 2 to the number of bits that are free in a byte that holds `held`.

@@ -19,7 +19,8 @@ use Rattle.hash.specs.declared.Hash.{Hash}
 use Rattle.hash.specs.declared.Opened.{Opened}
 use Rattle.hash.specs.declared.Fed.{Fed}
 use Rattle.hash.proofs.Feeding.{Whole, advanced-append, advanced-none, fed-whole, length-message, bits-message, at-widths}
-use Rattle.hash.proofs.Theorems.{open-known, digest-length, first, first-sized, first-legal, after-width, after-bits, after-legal, after-digest}
+use Rattle.hash.proofs.Digests.{digest-length}
+use Rattle.hash_theorems.proofs.Theorems.{open-known, first, first-sized, first-legal, after-width, after-bits, after-legal, after-digest}
 use Rattle.text.specs.Text.{over}
 use Rattle.tape.specs.Run.{feeding}
 use Rattle.tape.specs.Standing.{Stands, Steps}

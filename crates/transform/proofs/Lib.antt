@@ -1,4 +1,1 @@
-pub mod Level
-pub mod Product
-pub mod Stages
 pub mod Whole

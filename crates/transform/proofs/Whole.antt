@@ -12,7 +12,7 @@ use Rattle.simd.specs.Expansion.{power, added, transform}
 use Rattle.laws.proofs.Sum.{sum-ext, sum-zero, sum-append}
 use Rattle.laws.proofs.Table.{table-of, getD-table}
 use Rattle.laws.proofs.Field.{same-of, same-add, same-mod, same-trans, power-zero}
-use Rattle.transform.specs.Stage.{part, Level}
+use Rattle.transform_stages.specs.Stage.{part, Level}
 
 -- The numbers that are transformed: the block's bytes, and zero past its end.
 abbrev pub bytes : List ℕ → ℕ → ℕ

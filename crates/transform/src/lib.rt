@@ -1,12 +1,15 @@
 // The transform of both families: the number-theoretic transform modulo 257 that splits even and odd places (section 1.2.2).
+use transform_stages::begin;
+use transform_stages::columns;
+use transform_stages::finish;
+use transform_stages::rows;
+use transform_stages::shuffle;
 ghost use mathlib.Core.Path.{_≡_};
 ghost use Prim.Native.Nat.{_%_};
 ghost use lib.ListN.{length};
 ghost use Rattle.simd.specs.Basic.{small as smallFamily, large as largeFamily, table};
 ghost use Rattle.simd.specs.Expansion.{added as addedTo, transform};
 ghost use Rattle.transform_tables.specs.Roots.{Roots};
-
-mod stage;
 
 // The transform of a block of the small family, written to out. The tables are those of `transform_tables::roots` and `transform_tables::added_small`.
 // The first two stages run over neighbouring places of the block. Then the eight values of a place are brought side by side, and the other
@@ -19,17 +22,17 @@ pub fn small(block: &[u8], roots: &[u16; 512], added: &[u16; 128], out: &mut [u1
 {
     let mut x = [0u16; 128];
     let mut y = [0u16; 128];
-    stage::begin(block, &mut x, 64);
-    stage::columns(&x, &mut y, roots, 2, 32, 64);
-    stage::columns(&y, &mut x, roots, 4, 16, 64);
-    stage::shuffle(&x, &mut y, 64);
-    stage::shuffle(&y, &mut x, 64);
-    stage::shuffle(&x, &mut y, 64);
-    stage::rows(&y, &mut x, roots, 8, 8, 64);
-    stage::rows(&x, &mut y, roots, 16, 4, 64);
-    stage::rows(&y, &mut x, roots, 32, 2, 64);
-    stage::rows(&x, &mut y, roots, 64, 1, 64);
-    stage::finish(&y, added, out, 128);
+    begin(block, &mut x, 64);
+    columns(&x, &mut y, roots, 2, 32, 64);
+    columns(&y, &mut x, roots, 4, 16, 64);
+    shuffle(&x, &mut y, 64);
+    shuffle(&y, &mut x, 64);
+    shuffle(&x, &mut y, 64);
+    rows(&y, &mut x, roots, 8, 8, 64);
+    rows(&x, &mut y, roots, 16, 4, 64);
+    rows(&y, &mut x, roots, 32, 2, 64);
+    rows(&x, &mut y, roots, 64, 1, 64);
+    finish(&y, added, out, 128);
 }
 
 // The same for a block of the large family, with `transform_tables::added_large`.
@@ -41,16 +44,16 @@ pub fn large(block: &[u8], roots: &[u16; 512], added: &[u16; 256], out: &mut [u1
 {
     let mut x = [0u16; 256];
     let mut y = [0u16; 256];
-    stage::begin(block, &mut x, 128);
-    stage::columns(&x, &mut y, roots, 2, 64, 128);
-    stage::columns(&y, &mut x, roots, 4, 32, 128);
-    stage::shuffle(&x, &mut y, 128);
-    stage::shuffle(&y, &mut x, 128);
-    stage::shuffle(&x, &mut y, 128);
-    stage::rows(&y, &mut x, roots, 8, 16, 128);
-    stage::rows(&x, &mut y, roots, 16, 8, 128);
-    stage::rows(&y, &mut x, roots, 32, 4, 128);
-    stage::rows(&x, &mut y, roots, 64, 2, 128);
-    stage::rows(&y, &mut x, roots, 128, 1, 128);
-    stage::finish(&x, added, out, 256);
+    begin(block, &mut x, 128);
+    columns(&x, &mut y, roots, 2, 64, 128);
+    columns(&y, &mut x, roots, 4, 32, 128);
+    shuffle(&x, &mut y, 128);
+    shuffle(&y, &mut x, 128);
+    shuffle(&x, &mut y, 128);
+    rows(&y, &mut x, roots, 8, 16, 128);
+    rows(&x, &mut y, roots, 16, 8, 128);
+    rows(&y, &mut x, roots, 32, 4, 128);
+    rows(&x, &mut y, roots, 64, 2, 128);
+    rows(&y, &mut x, roots, 128, 1, 128);
+    finish(&x, added, out, 256);
 }

@@ -1,44 +1,41 @@
 -- The table of roots, made row by row from the last.
 use mathlib.Core.List.{List}
-use mathlib.Core.Logic.{⊎-elim}
 use mathlib.Core.Path.{_≡_, sym, ap, _∙_, subst}
 use Prim.Native.Nat.{ℕ, _+_, _*_, _-_, _<_, _≤_}
-use native.Mathlib.Nat.{eq-or-lt-of-le}
 use native.Mathlib.Omega.{arith}
-use lib.ListN.{length, getD, set}
-use lib.Seq.{getD-set-same, getD-set-other}
+use native.Mathlib.Decide.{decLt}
+use lib.ListN.{length, getD}
 use Rattle.simd.specs.Basic.{table}
 use Rattle.simd.specs.Expansion.{power}
+use Rattle.laws.proofs.Stores.{Filled}
 use Rattle.laws.proofs.Table.{getD-table}
 use Rattle.transform_tables.specs.Roots.{Halved, Roots}
 
-module _ (t : List ℕ) (i : ℕ) (first : 0 < i) (last : i < 128) (fits : i < length t) (done : Halved t (i + 1)) where
-  next : List ℕ
-  next = set t i (getD t (2 * i) 0)
+module _ (t t′ : List ℕ) (l n : ℕ) (low : 0 < l) (short : n ≤ l) (high : l + n ≤ 128) (done : Halved t (l + n)) (row : Filled (λ j. getD t (2 * l + 2 * j) 0) (λ j. l + j) t t′ n) where
+  other : (j : ℕ) → l + n ≤ j → getD t′ j 0 ≡ getD t j 0
+  other j past = row .others j (λ k below e. omega arith)
 
-  at : getD next i 0 ≡ getD t (2 * i) 0
-  unfolding next
-  at = getD-set-same t i (getD t (2 * i) 0) 0 fits
+  here : (j : ℕ) → l ≤ j → j < l + n → getD t′ j 0 ≡ getD t (2 * j) 0
+  here j from below =
+      let place : l + (j - l) ≡ j = omega arith in
+      let twice : 2 * l + 2 * (j - l) ≡ 2 * j = omega arith in
+      rw (place, twice) at (row .filled (j - l) (omega arith))
 
-  other : (j : ℕ) → i < j → getD next j 0 ≡ getD t j 0
-  unfolding next
-  other j h = getD-set-other t i j (getD t (2 * i) 0) 0 (λ e. omega arith)
+  pub row-keeps : (k : ℕ) → k < 128 → getD t′ (128 + k) 0 ≡ getD t (128 + k) 0
+  row-keeps k h = other (128 + k) (omega arith)
 
-  row-at : (j : ℕ) → i ≤ j → j < 128 → getD next j 0 ≡ getD next (2 * j) 0
-  row-at j low high =
-      ⊎-elim (λ e. subst (λ j. getD next j 0 ≡ getD next (2 * j) 0) e (at ∙ sym (other (2 * i) (omega arith))))
-      (λ h. other j h ∙ done .each-row j (omega arith) high ∙ sym (other (2 * j) (omega arith)))
-      (eq-or-lt-of-le {n = i} {m = j} low)
-
-  below-at : (j : ℕ) → i ≤ j → j < 256 → getD next j 0 < 257
-  below-at j low high =
-      ⊎-elim (λ e. subst (λ j. getD next j 0 < 257) e (omega (arith, at, done .below (2 * i) (omega arith) (omega arith))))
-      (λ h. omega (arith, other j h, done .below j (omega arith) high))
-      (eq-or-lt-of-le {n = i} {m = j} low)
-
-  pub halved-more : Halved (set t i (getD t (2 * i) 0)) i
-  unfolding next
-  halved-more = record { each-row = row-at; below = below-at }
+  pub row-halved : Halved t′ l
+  row-halved =
+      record {
+        each-row = λ j from below. elim (decLt j (l + n)) [
+          | yes less ↦ here j from less ∙ sym (other (2 * j) (omega arith))
+          | no past ↦ other j (omega arith) ∙ done .each-row j (omega arith) below ∙ sym (other (2 * j) (omega arith))
+        ];
+        below = λ j from below. elim (decLt j (l + n)) [
+          | yes less ↦ omega (arith, here j from less, done .below (2 * j) (omega arith) (omega arith))
+          | no past ↦ omega (arith, other j (omega arith), done .below j (omega arith) below)
+        ];
+      }
 
 pub halved-none : (t : List ℕ) → ((k : ℕ) → k < 128 → getD t (128 + k) 0 < 257) → Halved t 128
 halved-none t last =

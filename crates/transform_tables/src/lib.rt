@@ -1,7 +1,7 @@
 // The constant tables: the powers of 41 modulo 257, the added constants (section 1.2.2), and the roots that the transform reads.
 // A constant array is built anew wherever it is named: a caller takes a table once and lends it for many blocks.
 ghost use mathlib.Core.Path.{_≡_};
-ghost use Prim.Native.Nat.{ℕ, _+_, _*_, _%_, _<_};
+ghost use Prim.Native.Nat.{ℕ, _+_, _*_, _%_, _≤_, _<_};
 ghost use lib.ListN.{length, getD};
 ghost use Rattle.simd.specs.Basic.{small as smallFamily, large as largeFamily, table};
 ghost use Rattle.simd.specs.Expansion.{power, added};
@@ -1078,17 +1078,32 @@ fn last_row(powers: &[u16], t: &mut [u16])
     }
 }
 
-// The rows before it, from the last to the first.
+// Entries l to l + n - 1, from entries past them.
+fn halved_row(t: &mut [u16], l: usize, n: usize)
+    requires { ⌜ (length (now t) ≡ 512) × (0 < l) × (n ≤ l) × (l + n ≤ 128) ⌝ }
+    requires { ⌜ Halved (now t) (l + n) ⌝ }
+    ensures { λ r. ⌜ ((k : ℕ) → k < 128 → getD (now (t .exit)) (128 + k) 0 ≡ getD (now (t .entry)) (128 + k) 0) ⌝ }
+    ensures { λ r. ⌜ Halved (now (t .exit)) l ⌝ }
+{
+    let mut k = 0;
+    while k < n {
+        t[l + k] = t[2 * l + 2 * k];
+        k += 1;
+    }
+}
+
+// The rows before it, from the longest to the shortest. A row at a time becomes vector code; single entries would not.
 fn earlier_rows(t: &mut [u16])
     requires { ⌜ length (now t) ≡ 512 ⌝ }
     requires { ⌜ ((k : ℕ) → k < 128 → getD (now t) (128 + k) 0 < 257) ⌝ }
     ensures { λ r. ⌜ ((k : ℕ) → k < 128 → getD (now (t .exit)) (128 + k) 0 ≡ getD (now (t .entry)) (128 + k) 0) ⌝ }
     ensures { λ r. ⌜ Halved (now (t .exit)) 1 ⌝ }
 {
-    let mut i = 128;
-    while 1 < i {
-        i -= 1;
-        t[i] = t[2 * i];
+    let mut m = 128;
+    while 1 < m {
+        let l = (m + 1) / 2;
+        halved_row(t, l, m - l);
+        m = l;
     }
 }
 

@@ -1,42 +1,20 @@
--- A step backward from its two old columns, with the numbers read off the tables.
-use mathlib.Core.List.{List, [], _∷_}
-use mathlib.Core.Path.{_≡_, refl, sym, ap, _∙_}
-use Prim.Native.Nat.{ℕ, zero, suc, _+_, _-_, _/_, _%_, _<_, _≤_, min}
+-- A step backward from its two old columns.
+use mathlib.Core.List.{List, []}
+use mathlib.Core.Path.{_≡_, ap, _∙_}
+use Prim.Native.Nat.{ℕ, zero, suc, _+_, _-_, _<_, _≤_}
 use native.Mathlib.Nat.{not-suc-le-zero}
 use native.Mathlib.Omega.{arith}
-use lib.Bits.{bitXor}
 use lib.ListN.{getD}
-use Rattle.simd.specs.Basic.{Family, small, large, rows, table}
-use Rattle.simd.specs.Constants.{rotations, exchange}
-use Rattle.simd.specs.Steps.{State, choose, rotation, partner}
+use Rattle.simd.specs.Basic.{Family, rows, table}
+use Rattle.simd.specs.Constants.{exchange}
+use Rattle.simd.specs.Steps.{State, choose, rotation}
 use Rattle.laws.proofs.Table.{table-ext}
 use Rattle.words.proofs.Exchanges.{partner-code}
-use Rattle.words.proofs.Rotations.{rotation-above, rotation-below}
-use Rattle.words.specs.Columns.{exchanges, period}
 use Rattle.unsteps.specs.Unstep.{sub, rotr, oldA, oldD, unstep, unsteps}
-
-pub rotation-read : (q : List (List ℕ)) → q ≡ rotations → (i k : ℕ) → i < 32 →
-    (getD (getD q (i / 8) []) (k % 4) 0 ≡ rotation i k) × ((0 < getD (getD q (i / 8) []) (k % 4) 0) × (getD (getD q (i / 8) []) (k % 4) 0 < 32))
-unfolding rotation
-rotation-read q q-is i k less =
-    let round : i / 8 ≡ min (i / 8) 3 = omega arith in
-    let same : getD (getD q (i / 8) []) (k % 4) 0 ≡ rotation i k = λ t. getD (getD (q-is t) (round t) []) (k % 4) 0 in
-    (same, (omega (arith, same, rotation-above i k), omega (arith, same, rotation-below i k)))
-
-pub exchange-read : (f : Family) (e : List ℕ) → e ≡ exchanges f → (i : ℕ) → getD e (i % period f) 0 ≡ exchange f i
-unfolding exchange
-exchange-read small e e-is i = ap (λ l. getD l (i % 3) 0) e-is
-exchange-read large e e-is i = ap (λ l. getD l (i % 7) 0) e-is
 
 -- Word j of old D from the partner row and the Boolean function.
 pub word-d : (q a w : ℕ) (l : List ℕ) {v f f′ y y′ : ℕ} → v ≡ sub (sub (rotr q (sub a (getD l y 0))) f) w → f ≡ f′ → y ≡ y′ → v ≡ sub (sub (rotr q (sub a (getD l y′ 0))) f′) w
 word-d q a w l v-is f-is y-is = v-is ∙ (λ t. sub (sub (rotr q (sub a (getD l (y-is t) 0))) (f-is t)) w)
-
--- Eight words in a list are the first eight of a table.
-pub eight-words : (g : ℕ → ℕ) {v₀ v₁ v₂ v₃ v₄ v₅ v₆ v₇ : ℕ} → v₀ ≡ g 0 → v₁ ≡ g 1 → v₂ ≡ g 2 → v₃ ≡ g 3 → v₄ ≡ g 4 → v₅ ≡ g 5 → v₆ ≡ g 6 → v₇ ≡ g 7 →
-    v₀ ∷ v₁ ∷ v₂ ∷ v₃ ∷ v₄ ∷ v₅ ∷ v₆ ∷ v₇ ∷ [] ≡ table 8 g
-unfolding table
-eight-words g e₀ e₁ e₂ e₃ e₄ e₅ e₆ e₇ = λ t. e₀ t ∷ e₁ t ∷ e₂ t ∷ e₃ t ∷ e₄ t ∷ e₅ t ∷ e₆ t ∷ e₇ t ∷ []
 
 pub unstep-columns : (f : Family) (i : ℕ) (w : List ℕ) (s : State) {a d : List ℕ} {q x : ℕ} →
     a ≡ oldA f i s → q ≡ rotation i (i + 1) → x ≡ exchange f i → d ≡ table (rows f) (oldD f i q x a w s) →

@@ -2,4 +2,3 @@ pub mod Rotations
 pub mod Exchanges
 pub mod Columns
 pub mod Runs
-pub mod Single

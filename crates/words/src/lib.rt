@@ -1,9 +1,10 @@
-// Words: sum modulo 2^32, shifts, rotation and the two Boolean functions.
+// Words: sum modulo 2^32, shifts, rotation, and the Boolean function and rotations of each step.
 ghost use mathlib.Core.Path.{_≡_};
 ghost use Prim.Native.Nat.{_*_, _-_, _/_, _%_, _^_, _<_, min};
-ghost use Rattle.simd.specs.Steps.{add, rotl, IF, MAJ};
+ghost use Rattle.simd.specs.Constants.{rotations};
+ghost use Rattle.simd.specs.Steps.{add, rotl, IF, MAJ, choose, rotation as rotationOf};
 
-pub fn sum(x: u32, y: u32) -> u32
+fn sum(x: u32, y: u32) -> u32
     ensures { λ v. ⌜ v ≡ add x y ⌝ }
 {
     std::num::wrapping_add_u32(x, y)
@@ -24,17 +25,17 @@ pub fn left(x: u32, r: u32) -> u32
     x << (r % 32)
 }
 
-pub fn right(x: u32, r: u32) -> u32
+fn right(x: u32, r: u32) -> u32
     ensures { λ v. ⌜ v ≡ x / 2 ^ (32 - r % 32) ⌝ }
 {
     (x >> 1) >> (31 - r % 32)
 }
 
-// The rotation from its left part h.
-pub fn filled(h: u32, x: u32, r: u32) -> u32
-    requires { ⌜ h ≡ x * 2 ^ (r % 32) % 2 ^ 32 ⌝ }
+// The rotation from these parts: where the left part is wanted too, it is made once.
+pub fn turn(x: u32, r: u32) -> u32
     ensures { λ v. ⌜ v ≡ rotl (r % 32) x ⌝ }
 {
+    let h = left(x, r);
     h | right(x, r)
 }
 
@@ -45,37 +46,50 @@ pub fn rotated_plus(m: u32, s: u32, t: u32) -> u32
     sum(sum(left(m, s), t), right(m, s))
 }
 
-pub fn choice(a: u32, b: u32, c: u32) -> u32
+fn choice(a: u32, b: u32, c: u32) -> u32
     ensures { λ v. ⌜ v ≡ IF a b c ⌝ }
 {
     (a & b) | (!a & c)
 }
 
-pub fn majority(a: u32, b: u32, c: u32) -> u32
+fn majority(a: u32, b: u32, c: u32) -> u32
     ensures { λ v. ⌜ v ≡ MAJ a b c ⌝ }
 {
     (a & b) | (a & c) | (b & c)
 }
 
-// The sum of D, word and Boolean function.
-pub fn blend_if(a: u32, b: u32, c: u32, d: u32, w: u32) -> u32
-    ensures { λ v. ⌜ v ≡ add (add d w) (IF a b c) ⌝ }
+// The Boolean function of step i.
+pub fn chosen(i: usize, a: u32, b: u32, c: u32) -> u32
+    ensures { λ v. ⌜ v ≡ choose i a b c ⌝ }
 {
-    sum(sum(d, w), choice(a, b, c))
+    if i % 8 < 4 {
+        choice(a, b, c)
+    } else {
+        majority(a, b, c)
+    }
 }
 
-pub fn blend_maj(a: u32, b: u32, c: u32, d: u32, w: u32) -> u32
-    ensures { λ v. ⌜ v ≡ add (add d w) (MAJ a b c) ⌝ }
+// The sum of D, the word and the Boolean function of step i.
+pub fn blend(i: usize, a: u32, b: u32, c: u32, d: u32, w: u32) -> u32
+    ensures { λ v. ⌜ v ≡ add (add d w) (choose i a b c) ⌝ }
 {
-    sum(sum(d, w), majority(a, b, c))
+    sum(sum(d, w), chosen(i, a, b, c))
 }
 
 // The round of step i: steps 32 to 35 go on with the last.
-pub fn round_of(i: usize) -> usize
+fn round_of(i: usize) -> usize
     ensures { λ n. ⌜ (n ≡ min (i / 8) 3) × (n < 4) ⌝ }
 {
     if i < 24 {
         return i / 8;
     }
     3
+}
+
+// Entry k mod 4 of the quadruple of step i.
+pub fn rotation(q: &[[u32; 4]; 4], i: usize, k: usize) -> u32
+    requires { ⌜ now q ≡ rotations ⌝ }
+    ensures { λ r. ⌜ (r ≡ rotationOf i k) × ((0 < r) × (r < 32)) ⌝ }
+{
+    q[round_of(i)][k % 4]
 }

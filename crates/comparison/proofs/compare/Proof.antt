@@ -1,7 +1,7 @@
 use mathlib.Core.Path.{sym, _∙_}
 use borrow.Author.Tests.{not-true, not-false}
 use borrow.Author.Needs.{needs}
-use Rattle.comparison.proofs.AnswerLaws.{answer-width, answer-first, answer-second, answer-found}
+use Rattle.pairs.proofs.AnswerLaws.{answer-width, answer-first, answer-second, answer-found}
 use Rattle.comparison.proofs.compare.Statement.{statement}
 use Rattle.comparison.proofs.compare.Tie as tie
 

@@ -2,7 +2,7 @@ use mathlib.Core.Path.{refl}
 use borrow.Author.Needs.{needs}
 use Rattle.simd.specs.Basic.{small, large}
 use Rattle.simd.specs.Constants.{start}
-use Rattle.comparison.proofs.AnswerLaws.{at-width, last-width}
+use Rattle.pairs.proofs.AnswerLaws.{at-width, last-width}
 use Rattle.comparison.proofs.compare_width.Statement.{statement}
 use Rattle.comparison.proofs.compare_width.Tie as tie
 

@@ -5,9 +5,10 @@ use lib.ListN.{length}
 use native.Mathlib.Omega.{arith}
 use borrow.Author.Tests.{not-true, not-false}
 use Rattle.simd.specs.Basic.{familyOf, blockBits}
-use Rattle.hash.specs.Form.{formBytes, formBits}
+use Rattle.form.specs.Numbers.{formBits}
+use Rattle.hash.specs.Form.{formBytes}
 use Rattle.tail.proofs.Sizes.{bytes-within}
-use Rattle.hash.proofs.Forming.{form-short, form-unknown, form-size, form-decides}
+use Rattle.hash.proofs.Refusing.{form-short, form-unknown, form-size, form-decides}
 use borrow.Author.Needs.{needs}
 use Rattle.hash.proofs.restore_refusal.Statement.{statement}
 use Rattle.hash.proofs.restore_refusal.Tie as tie

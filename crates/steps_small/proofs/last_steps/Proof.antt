@@ -1,3 +1,4 @@
+use lib.Dec.{lit<}
 use Rattle.simd.specs.Basic.{small}
 use Rattle.words.proofs.Runs.{last-four}
 use borrow.Author.Needs.{needs}
@@ -10,37 +11,38 @@ rotations-requires c κs = search needs
 small-exchanges-requires : tie.Need-small-exchanges-requires
 small-exchanges-requires c κs = search needs
 
-element-copy-out-w32 : tie.Need-element-copy-out-w32
-element-copy-out-w32 c = search needs
+index-1-step-by : tie.Need-index-1-step-by
+index-1-step-by c = search needs
 
-step-if-requires : tie.Need-step-if-requires
-step-if-requires c κs = search needs
+step-by-requires : tie.Need-step-by-requires
+step-by-requires c κs = ((c .before .before .before .before .before .rotations .ensures, c .before .before .before .before .small-exchanges .ensures), lit< tt)
 
-element-copy-out-w33 : tie.Need-element-copy-out-w33
-element-copy-out-w33 c = search needs
+index-1-step-by-2 : tie.Need-index-1-step-by-2
+index-1-step-by-2 c = search needs
 
-step-if-requires-2 : tie.Need-step-if-requires-2
-step-if-requires-2 c κs = search needs
+step-by-requires-2 : tie.Need-step-by-requires-2
+step-by-requires-2 c κs = ((c .before .before .before .before .before .before .before .before .rotations .ensures, c .before .before .before .before .before .before .before .small-exchanges .ensures), lit< tt)
 
-element-copy-out-w34 : tie.Need-element-copy-out-w34
-element-copy-out-w34 c = search needs
+index-1-step-by-3 : tie.Need-index-1-step-by-3
+index-1-step-by-3 c = search needs
 
-step-if-requires-3 : tie.Need-step-if-requires-3
-step-if-requires-3 c κs = search needs
+step-by-requires-3 : tie.Need-step-by-requires-3
+step-by-requires-3 c κs = ((c .before .before .before .before .before .before .before .before .before .before .before .rotations .ensures, c .before .before .before .before .before .before .before .before .before .before .small-exchanges .ensures), lit< tt)
 
-element-copy-out-w35 : tie.Need-element-copy-out-w35
-element-copy-out-w35 c = search needs
+index-1-step-by-4 : tie.Need-index-1-step-by-4
+index-1-step-by-4 c = search needs
 
-step-if-requires-4 : tie.Need-step-if-requires-4
-step-if-requires-4 c κs = search needs
+step-by-requires-4 : tie.Need-step-by-requires-4
+step-by-requires-4 c κs = ((c .before .before .before .before .before .before .before .before .before .before .before .before .before .before .rotations .ensures, c .before .before .before .before .before .before .before .before .before .before .before .before .before .small-exchanges .ensures), lit< tt)
 
 returns : tie.Need-returns
 returns c =
-    let s = c .before .before .before .before .before .before .before .before .before .before .before .before .before .before .before .before .before .before .before .before in
-    let q = c .before .before .before .before .before .before .before .before .before .before .before .before .before .before .before .before .before .before .before .rotations in
-    let e = c .before .before .before .before .before .before .before .before .before .before .before .before .before .before .before .before .before .before .small-exchanges in
-    last-four small (s .args .old .now) (q .result) (e .result) (q .ensures) (e .ensures) (s .args .st)
-    (c .before .before .before .before .before .before .before .before .before .before .before .before .step-if .ensures) (c .before .before .before .before .before .before .before .before .step-if2 .ensures) (c .before .before .before .before .step-if3 .ensures) (c .step-if4 .ensures)
+    let p = c .before .before .before .before .before .before .before .before .before .before .before .before .before .before .before .before .args in
+    last-four small (p .old .now) (p .st)
+    (c .before .before .before .before .before .before .before .before .before .step-by .ensures)
+    (c .before .before .before .before .before .before .step-by2 .ensures)
+    (c .before .before .before .step-by3 .ensures)
+    (c .step-by4 .ensures)
 
 pub last-steps-spec : {M : Type 1} → statement M
 last-steps-spec =
@@ -48,12 +50,12 @@ last-steps-spec =
     (tie.spec
     rotations-requires
     small-exchanges-requires
-    element-copy-out-w32
-    step-if-requires
-    element-copy-out-w33
-    step-if-requires-2
-    element-copy-out-w34
-    step-if-requires-3
-    element-copy-out-w35
-    step-if-requires-4
+    index-1-step-by
+    step-by-requires
+    index-1-step-by-2
+    step-by-requires-2
+    index-1-step-by-3
+    step-by-requires-3
+    index-1-step-by-4
+    step-by-requires-4
     returns)

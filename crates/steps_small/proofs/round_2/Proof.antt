@@ -11,68 +11,66 @@ rotations-requires c κs = search needs
 small-exchanges-requires : tie.Need-small-exchanges-requires
 small-exchanges-requires c κs = search needs
 
-element-copy-out-w16 : tie.Need-element-copy-out-w16
-element-copy-out-w16 c = search needs
+index-1-step-by : tie.Need-index-1-step-by
+index-1-step-by c = search needs
 
-step-if-requires : tie.Need-step-if-requires
-step-if-requires c κs = search needs
+step-by-requires : tie.Need-step-by-requires
+step-by-requires c κs = ((c .before .before .before .before .before .rotations .ensures, c .before .before .before .before .small-exchanges .ensures), lit< tt)
 
-element-copy-out-w17 : tie.Need-element-copy-out-w17
-element-copy-out-w17 c = search needs
+index-1-step-by-2 : tie.Need-index-1-step-by-2
+index-1-step-by-2 c = search needs
 
-step-if-requires-2 : tie.Need-step-if-requires-2
-step-if-requires-2 c κs = search needs
+step-by-requires-2 : tie.Need-step-by-requires-2
+step-by-requires-2 c κs = ((c .before .before .before .before .before .before .before .before .rotations .ensures, c .before .before .before .before .before .before .before .small-exchanges .ensures), lit< tt)
 
-element-copy-out-w18 : tie.Need-element-copy-out-w18
-element-copy-out-w18 c = search needs
+index-1-step-by-3 : tie.Need-index-1-step-by-3
+index-1-step-by-3 c = search needs
 
-step-if-requires-3 : tie.Need-step-if-requires-3
-step-if-requires-3 c κs = search needs
+step-by-requires-3 : tie.Need-step-by-requires-3
+step-by-requires-3 c κs = ((c .before .before .before .before .before .before .before .before .before .before .before .rotations .ensures, c .before .before .before .before .before .before .before .before .before .before .small-exchanges .ensures), lit< tt)
 
-element-copy-out-w19 : tie.Need-element-copy-out-w19
-element-copy-out-w19 c = search needs
+index-1-step-by-4 : tie.Need-index-1-step-by-4
+index-1-step-by-4 c = search needs
 
-step-if-requires-4 : tie.Need-step-if-requires-4
-step-if-requires-4 c κs = search needs
+step-by-requires-4 : tie.Need-step-by-requires-4
+step-by-requires-4 c κs = ((c .before .before .before .before .before .before .before .before .before .before .before .before .before .before .rotations .ensures, c .before .before .before .before .before .before .before .before .before .before .before .before .before .small-exchanges .ensures), lit< tt)
 
-element-copy-out-w20 : tie.Need-element-copy-out-w20
-element-copy-out-w20 c = search needs
+index-1-step-by-5 : tie.Need-index-1-step-by-5
+index-1-step-by-5 c = search needs
 
-step-maj-requires : tie.Need-step-maj-requires
-step-maj-requires c κs = search needs
+step-by-requires-5 : tie.Need-step-by-requires-5
+step-by-requires-5 c κs = ((c .before .before .before .before .before .before .before .before .before .before .before .before .before .before .before .before .before .rotations .ensures, c .before .before .before .before .before .before .before .before .before .before .before .before .before .before .before .before .small-exchanges .ensures), lit< tt)
 
-element-copy-out-w21 : tie.Need-element-copy-out-w21
-element-copy-out-w21 c = search needs
+index-1-step-by-6 : tie.Need-index-1-step-by-6
+index-1-step-by-6 c = search needs
 
-step-maj-requires-2 : tie.Need-step-maj-requires-2
-step-maj-requires-2 c κs = search needs
+step-by-requires-6 : tie.Need-step-by-requires-6
+step-by-requires-6 c κs = ((c .before .before .before .before .before .before .before .before .before .before .before .before .before .before .before .before .before .before .before .before .rotations .ensures, c .before .before .before .before .before .before .before .before .before .before .before .before .before .before .before .before .before .before .before .small-exchanges .ensures), lit< tt)
 
-element-copy-out-w22 : tie.Need-element-copy-out-w22
-element-copy-out-w22 c = search needs
+index-1-step-by-7 : tie.Need-index-1-step-by-7
+index-1-step-by-7 c = search needs
 
-step-maj-requires-3 : tie.Need-step-maj-requires-3
-step-maj-requires-3 c κs = search needs
+step-by-requires-7 : tie.Need-step-by-requires-7
+step-by-requires-7 c κs = ((c .before .before .before .before .before .before .before .before .before .before .before .before .before .before .before .before .before .before .before .before .before .before .before .rotations .ensures, c .before .before .before .before .before .before .before .before .before .before .before .before .before .before .before .before .before .before .before .before .before .before .small-exchanges .ensures), lit< tt)
 
-element-copy-out-w23 : tie.Need-element-copy-out-w23
-element-copy-out-w23 c = search needs
+index-1-step-by-8 : tie.Need-index-1-step-by-8
+index-1-step-by-8 c = search needs
 
-step-maj-requires-4 : tie.Need-step-maj-requires-4
-step-maj-requires-4 c κs = search needs
+step-by-requires-8 : tie.Need-step-by-requires-8
+step-by-requires-8 c κs = ((c .before .before .before .before .before .before .before .before .before .before .before .before .before .before .before .before .before .before .before .before .before .before .before .before .before .before .rotations .ensures, c .before .before .before .before .before .before .before .before .before .before .before .before .before .before .before .before .before .before .before .before .before .before .before .before .before .small-exchanges .ensures), lit< tt)
 
 returns : tie.Need-returns
 returns c =
-    let s = c .before .before .before .before .before .before .before .before .before .before .before .before .before .before .before .before .before .before .before .before .before .before .before .before .before .before .before .before .before .before .before .before .before .before .before .before in
-    let q = c .before .before .before .before .before .before .before .before .before .before .before .before .before .before .before .before .before .before .before .before .before .before .before .before .before .before .before .before .before .before .before .before .before .before .before .rotations in
-    let e = c .before .before .before .before .before .before .before .before .before .before .before .before .before .before .before .before .before .before .before .before .before .before .before .before .before .before .before .before .before .before .before .before .before .before .small-exchanges in
-    eight small (s .args .w .now) 2 (lit< tt) (q .result) (e .result) (q .ensures) (e .ensures) (s .args .st)
-    (c .before .before .before .before .before .before .before .before .before .before .before .before .before .before .before .before .before .before .before .before .before .before .before .before .before .before .before .before .step-if .ensures)
-    (c .before .before .before .before .before .before .before .before .before .before .before .before .before .before .before .before .before .before .before .before .before .before .before .before .step-if2 .ensures)
-    (c .before .before .before .before .before .before .before .before .before .before .before .before .before .before .before .before .before .before .before .before .step-if3 .ensures)
-    (c .before .before .before .before .before .before .before .before .before .before .before .before .before .before .before .before .step-if4 .ensures)
-    (c .before .before .before .before .before .before .before .before .before .before .before .before .step-maj .ensures)
-    (c .before .before .before .before .before .before .before .before .step-maj2 .ensures)
-    (c .before .before .before .before .step-maj3 .ensures)
-    (c .step-maj4 .ensures)
+    let p = c .before .before .before .before .before .before .before .before .before .before .before .before .before .before .before .before .before .before .before .before .before .before .before .before .before .before .before .before .args in
+    eight small (p .w .now) 16 (p .st)
+    (c .before .before .before .before .before .before .before .before .before .before .before .before .before .before .before .before .before .before .before .before .before .step-by .ensures)
+    (c .before .before .before .before .before .before .before .before .before .before .before .before .before .before .before .before .before .before .step-by2 .ensures)
+    (c .before .before .before .before .before .before .before .before .before .before .before .before .before .before .before .step-by3 .ensures)
+    (c .before .before .before .before .before .before .before .before .before .before .before .before .step-by4 .ensures)
+    (c .before .before .before .before .before .before .before .before .before .step-by5 .ensures)
+    (c .before .before .before .before .before .before .step-by6 .ensures)
+    (c .before .before .before .step-by7 .ensures)
+    (c .step-by8 .ensures)
 
 pub round-2-spec : {M : Type 1} → statement M
 round-2-spec =
@@ -80,20 +78,20 @@ round-2-spec =
     (tie.spec
     rotations-requires
     small-exchanges-requires
-    element-copy-out-w16
-    step-if-requires
-    element-copy-out-w17
-    step-if-requires-2
-    element-copy-out-w18
-    step-if-requires-3
-    element-copy-out-w19
-    step-if-requires-4
-    element-copy-out-w20
-    step-maj-requires
-    element-copy-out-w21
-    step-maj-requires-2
-    element-copy-out-w22
-    step-maj-requires-3
-    element-copy-out-w23
-    step-maj-requires-4
+    index-1-step-by
+    step-by-requires
+    index-1-step-by-2
+    step-by-requires-2
+    index-1-step-by-3
+    step-by-requires-3
+    index-1-step-by-4
+    step-by-requires-4
+    index-1-step-by-5
+    step-by-requires-5
+    index-1-step-by-6
+    step-by-requires-6
+    index-1-step-by-7
+    step-by-requires-7
+    index-1-step-by-8
+    step-by-requires-8
     returns)

@@ -7,7 +7,7 @@ use lib.ListN.{length}
 use Rattle.simd.specs.Basic.{large}
 use Rattle.simd.specs.Expansion.{power, added}
 use Rattle.laws.proofs.Table.{length-table}
-use Rattle.transform.specs.Stage.{Level, Leads}
+use Rattle.transform_stages.specs.Stage.{Level, Leads}
 use Rattle.transform.proofs.Whole.{bytes, first-level, rows-level, transformed, last-bound, constant-below}
 use Rattle.transform.proofs.large.Statement.{statement}
 use Rattle.transform.proofs.large.Tie as tie

@@ -7,7 +7,7 @@ use Rattle.simd.specs.Basic.{small}
 use Rattle.simd.specs.Expansion.{added}
 use Rattle.laws.proofs.Table.{length-table}
 use Rattle.laws.proofs.Field.{power-139}
-use Rattle.transform.specs.Stage.{Level, Leads}
+use Rattle.transform_stages.specs.Stage.{Level, Leads}
 use Rattle.transform.proofs.Whole.{bytes, first-level, rows-level, transformed, last-bound, constant-below}
 use Rattle.transform.proofs.small.Statement.{statement}
 use Rattle.transform.proofs.small.Tie as tie

@@ -1,3 +1,4 @@
+use mathlib.Core.Path.{_∙_}
 use native.Mathlib.Omega.{arith}
 use Rattle.hash.proofs.Answers.{feed-refused, feed-facts, ready, feed-answered}
 use borrow.Author.Needs.{needs}
@@ -7,10 +8,16 @@ use Rattle.hash.proofs.Hash.feed.Tie as tie
 feed-refusal-requires : tie.Need-feed-refusal-requires
 feed-refusal-requires c κs = search needs
 
+not-fed-requires : tie.Need-not-fed-requires
+not-fed-requires c κs = search needs
+
 returns : tie.Need-returns
 returns c =
-    let a = c .before .before .before .args in
-    feed-refused (a .self) (a .piece .now) (a .count) (c .before .feed-refusal .result) (c .before .feed-refusal .ensures) (c .if1 .taken)
+    let a = c .before .before .before .before .args in
+    let refusal = c .before .before .feed-refusal in
+    let answer = c .not-fed .ensures in
+    (λ i. record { hash = answer .0 i; blocks = answer .1 i; refusal = answer .2 i })
+    ∙ feed-refused (a .self) (a .piece .now) (a .count) (refusal .result) (refusal .ensures) (c .before .if1 .taken)
 
 add-bytes : tie.Need-add-bytes
 add-bytes c =
@@ -73,6 +80,7 @@ feed-spec =
     tie.close
     (tie.spec
     feed-refusal-requires
+    not-fed-requires
     returns
     add-bytes
     used-bits-requires

@@ -2,7 +2,8 @@ use mathlib.Core.Path.{sym, _∙_}
 use Prim.Native.Nat.{_+_, _-_}
 use native.Mathlib.Omega.{arith}
 use lib.ListN.{length, drop, length-take}
-use Rattle.hash.specs.Form.{formBits, formFamily}
+use Rattle.form.specs.Numbers.{formBits}
+use Rattle.hash.specs.Form.{formFamily}
 use Rattle.tail.proofs.Sizes.{bytes-within}
 use Rattle.hash.proofs.Storing.{form-facts}
 use Rattle.hash.proofs.Answers.{restore-refused, restore-answered, block-size}

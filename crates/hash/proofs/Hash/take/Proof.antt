@@ -4,7 +4,7 @@ use lib.ListN.{length-take}
 use Rattle.hash.specs.Open.{family}
 use Rattle.tail.proofs.Sizes.{words-within}
 use Rattle.hash.proofs.Holding.{legal-width, legal-tail}
-use Rattle.hash.proofs.Theorems.{digest-room}
+use Rattle.hash.proofs.Digests.{digest-room}
 use Rattle.hash.proofs.Answers.{take-refused, take-facts, take-answered}
 use borrow.Author.Needs.{needs}
 use Rattle.hash.proofs.Hash.take.Statement.{statement}

@@ -3,7 +3,7 @@ use mathlib.Core.Path.{ap, _∙_}
 use lib.ListN.{getD}
 use Rattle.simd.specs.Steps.{rotation}
 use Rattle.unsteps.specs.Unstep.{rotr, oldA}
-use Rattle.unsteps.proofs.Columns.{eight-words}
+use Rattle.words.proofs.Columns.{eight-words}
 use borrow.Author.Needs.{needs}
 use Rattle.unsteps.proofs.large.old_a.Statement.{statement}
 use Rattle.unsteps.proofs.large.old_a.Tie as tie

@@ -2,7 +2,8 @@ use lib.Dec.{lit<}
 use Rattle.simd.specs.Basic.{large}
 use Rattle.words.specs.Columns.{fromColumns}
 use Rattle.unsteps.specs.Unstep.{oldD}
-use Rattle.unsteps.proofs.Columns.{eight-words, unstep-columns}
+use Rattle.words.proofs.Columns.{eight-words}
+use Rattle.unsteps.proofs.Columns.{unstep-columns}
 use borrow.Author.Needs.{needs}
 use Rattle.unsteps.proofs.large.unstep.Statement.{statement}
 use Rattle.unsteps.proofs.large.unstep.Tie as tie

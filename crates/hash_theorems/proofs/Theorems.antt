@@ -1,0 +1,307 @@
+-- What holds of the open hash over all messages and all cuttings, of the definitions that the methods' contracts cite.
+use mathlib.Core.Bool.{true, cond}
+use mathlib.Core.List.{List, [], _∷_, _++_}
+use mathlib.Core.Path.{_≡_, refl, sym, ap, _∙_}
+use Prim.Native.Nat.{ℕ, zero, suc, _+_, _*_, _/_, _%_, _<_, _≤_}
+use native.Mathlib.Nat.{zero-add}
+use native.Mathlib.Omega.{arith}
+use borrow.Author.Tests.{le-leb}
+use lib.Dec.{eqb, eqb·suc-zero, lit≤}
+use lib.ListN.{length, getD, take, drop, length-take, length-append, List·getD-eq-default}
+use lib.Seq.{take-all, getD-take, ext-getD}
+use native.Mathlib.Decide.{decLt}
+use Rattle.simd.specs.Basic.{Family, small, large, familyOf, isWidth, blockBits, stateWords, bytesOf, table}
+use Rattle.simd.specs.Constants.{start}
+use Rattle.simd.specs.Message.{bitsOf, byteOf, message, messageBlocks, lengthBlock}
+use Rattle.simd.specs.Steps.{compression}
+use Rattle.simd.specs.Hash.{chain, final, finalState, digest, compressions}
+use Rattle.laws.proofs.Table.{length-table}
+use Rattle.laws.proofs.Bits.{Bits, bits-append, bitsOf-bytes, length-bitsOf}
+use Rattle.laws.proofs.Chain.{length-compression}
+use Rattle.tail.specs.Zero.{allZero, clear}
+use Rattle.hash.specs.Open.{limit, family, used, reached, pending, holding, legal, openRefusal, opened, openAnswer, fullBlocks, advanced, feedAnswer, finalOf, digestOf, takeRefusal, taken, takeAnswer, written}
+use Rattle.hash.specs.declared.Hash.{Hash}
+use Rattle.hash.specs.declared.Opened.{Opened}
+use Rattle.hash.specs.declared.Fed.{Fed}
+use Rattle.hash.specs.Form.{formOf, hashOf, restoreRefusal, restoreAnswer}
+use Rattle.tail.proofs.Zeros.{clear-of}
+use Rattle.hash.proofs.Holding.{Sized, Value, held-state, held-tail, held-legal, legal-width}
+use Rattle.hash.proofs.Feeding.{Whole, held-sized, advanced-sized, advanced-bits, advanced-legal, advanced-append, advanced-none, blocks-append, none-full, fed-whole, length-message, bits-message, final-advanced, message-blocks, at-widths, start-length}
+use Rattle.hash.proofs.Digests.{digest-length}
+use Rattle.hash.proofs.Storing.{form-hash, form-accepted, form-facts, read-legal, read-value, read-form}
+
+-- A cutting: pieces, the message that they make, and the answer to feeding them one after the other. Its blocks and its refusal are sums over
+-- the pieces, so that a refusal of 0 says that no piece was refused.
+pub record Piece : Type 0 where
+  pub bytes : List ℕ
+  pub count : ℕ
+
+unfoldable pub joined : List Piece → List ℕ
+joined [] = []
+joined (p ∷ ps) = message (p .bytes) (p .count) ++ joined ps
+
+unfoldable pub feedAll : Hash → List Piece → Fed
+feedAll h [] = record { hash = h; blocks = 0; refusal = 0 }
+feedAll h (p ∷ ps) =
+    let first = feedAnswer h (p .bytes) (p .count) in
+    let rest = feedAll (first .hash) ps in
+    record { hash = rest .hash; blocks = first .blocks + rest .blocks; refusal = first .refusal + rest .refusal }
+
+-- Every piece has its count within its bytes, and no bit set past the count.
+abbrev pub Wholes : List Piece → Type 0
+Wholes [] = Unit {0}
+Wholes (p ∷ ps) = Whole (p .bytes) (p .count) × Wholes ps
+
+pub bits-joined : (ps : List Piece) → Bits (joined ps)
+unfolding joined
+bits-joined [] = λ i. omega arith
+bits-joined (p ∷ ps) = bits-append (message (p .bytes) (p .count)) (joined ps) (bits-message (p .bytes) (p .count)) (bits-joined ps)
+
+none-used : (f : Family) → 0 ≡ 0 % blockBits f
+none-used small = refl
+none-used large = refl
+
+no-bit : Bits []
+no-bit i = omega arith
+
+no-blocks : (h : Hash) → fullBlocks h 0 ≡ 0
+unfolding fullBlocks
+no-blocks h = none-full (family h) (h .bits)
+
+-- Feeding pieces one after the other is feeding their bits joined, from any hash whatever.
+pub feed-all : (h : Hash) → Sized h → legal h ≡ true → (ps : List Piece) → Wholes ps → h .bits + length (joined ps) ≤ limit
+    → feedAll h ps ≡ record { hash = advanced h (joined ps); blocks = fullBlocks h (length (joined ps)); refusal = 0 }
+unfolding feedAll joined
+feed-all h s good [] whole short =
+    let same = sym (advanced-none h s good) in
+    let none = sym (no-blocks h) in
+    λ i. record { hash = same i; blocks = none i; refusal = 0 }
+feed-all h s good (p ∷ ps) whole short =
+    let m = message (p .bytes) (p .count) in
+    let size = length-message (p .bytes) (p .count) (whole .0 .within) in
+    let both = length-append m (joined ps) in
+    let bit = bits-message (p .bytes) (p .count) in
+    let first = fed-whole h (p .bytes) (p .count) good (whole .0) (omega arith) in
+    let left : advanced h m .bits + length (joined ps) ≤ limit = omega (arith, advanced-bits h m) in
+    let rest = feed-all (advanced h m) (advanced-sized h s m bit) (advanced-legal h s m bit good) ps (whole .1) left in
+    let hash = advanced-append h s m (joined ps) bit in
+    let blocks = sym (blocks-append h m (joined ps)) in
+    rw (first, rest) (λ i. record { hash = hash i; blocks = blocks i; refusal = 0 })
+
+-- Two pieces, one after the other, are a piece of their bits joined.
+pub feed-twice : (h : Hash) → Sized h → legal h ≡ true → (p q r : Piece) → Wholes (p ∷ q ∷ []) → Wholes (r ∷ [])
+    → joined (p ∷ q ∷ []) ≡ joined (r ∷ []) → h .bits + length (joined (r ∷ [])) ≤ limit → feedAll h (p ∷ q ∷ []) ≡ feedAll h (r ∷ [])
+feed-twice h s good p q r two one same short =
+    feed-all h s good (p ∷ q ∷ []) two (rw same short)
+    ∙ (λ i. record { hash = advanced h (same i); blocks = fullBlocks h (length (same i)); refusal = 0 })
+    ∙ sym (feed-all h s good (r ∷ []) one short)
+
+-- Every message is a piece: its bytes, with zeros past its end, and its length.
+module _ (m : List ℕ) (bit : Bits m) where
+  all-bytes : length (table ((length m + 7) / 8) (byteOf m)) ≡ (length m + 7) / 8
+  all-bytes = length-table ((length m + 7) / 8) (byteOf m)
+
+  all-bits : length (bitsOf (table ((length m + 7) / 8) (byteOf m))) ≡ 8 * ((length m + 7) / 8)
+  all-bits = omega (arith, length-bitsOf (table ((length m + 7) / 8) (byteOf m)), all-bytes)
+
+  past-end : (i : ℕ) → length m ≤ i → getD (bitsOf (table ((length m + 7) / 8) (byteOf m))) i 0 ≡ 0
+  past-end i past = elim (decLt i (8 * ((length m + 7) / 8))) [
+    | yes below ↦ bitsOf-bytes ((length m + 7) / 8) m bit i below ∙ List·getD-eq-default m 0 {n = i} (omega arith)
+    | no over ↦ List·getD-eq-default (bitsOf (table ((length m + 7) / 8) (byteOf m))) 0 {n = i} (omega (arith, all-bits))
+  ]
+
+  pub piece-whole : Whole (table ((length m + 7) / 8) (byteOf m)) (length m)
+  piece-whole =
+      record {
+        within = omega (arith, all-bytes);
+        clean =
+            rw (take-all ((length m + 7) / 8) (table ((length m + 7) / 8) (byteOf m)) (omega (arith, all-bytes)))
+            (clear-of (length m) (table ((length m + 7) / 8) (byteOf m)) past-end);
+      }
+
+  pub piece-message : message (table ((length m + 7) / 8) (byteOf m)) (length m) ≡ m
+  unfolding message
+  piece-message =
+      let bits = bitsOf (table ((length m + 7) / 8) (byteOf m)) in
+      ext-getD 0 (take (length m) bits) m (omega (arith, length-take (length m) bits, all-bits))
+      (λ i below.
+      let within : i < length m = omega (arith, length-take (length m) bits) in
+      getD-take (length m) bits i 0 within ∙ bitsOf-bytes ((length m + 7) / 8) m bit i (omega arith))
+
+-- A piece of no bits changes nothing, and no block is compressed.
+nothing : (piece : List ℕ) → Whole piece 0
+unfolding clear allZero bitsOf
+nothing piece = record { within = omega arith; clean = refl }
+
+no-bits : (piece : List ℕ) → message piece 0 ≡ []
+unfolding message
+no-bits piece = refl
+
+pub feed-none : (h : Hash) → Value h → legal h ≡ true → (piece : List ℕ) → feedAnswer h piece 0 ≡ record { hash = h; blocks = 0; refusal = 0 }
+feed-none h v good piece =
+    let hash = advanced-none h (v .sized) good in
+    let blocks = no-blocks h in
+    fed-whole h piece 0 good (nothing piece) (omega (arith, v .bits-fit))
+    ∙ rw no-bits (λ i. record { hash = hash i; blocks = blocks i; refusal = 0 })
+
+-- The hash that is opened at one of the four widths.
+pub open-known : (width : ℕ) → isWidth width ≡ true → openAnswer width ≡ record { hash = holding width 0 (start width) []; refusal = 0 }
+unfolding openAnswer openRefusal opened
+open-known width known = rw known
+
+abbrev pub first : ℕ → Hash
+first width = holding width 0 (start width) []
+
+module _ (width : ℕ) (known : isWidth width ≡ true) where
+  none-left : length {A = ℕ} [] ≡ 0 % blockBits (familyOf width)
+  none-left = none-used (familyOf width)
+
+  pub first-sized : Sized (first width)
+  first-sized = held-sized width 0 (start width) [] no-bit
+
+  pub first-legal : legal (first width) ≡ true
+  first-legal = held-legal width 0 (start width) [] (start-length width known) none-left no-bit known
+
+  first-state : reached (first width) ≡ start width
+  first-state = held-state width 0 (start width) [] (start-length width known) none-left no-bit
+
+  first-tail : pending (first width) ≡ []
+  first-tail = held-tail width 0 (start width) [] (start-length width known) none-left no-bit
+
+-- A take hands the hash back as it was. It compresses two blocks exactly where the tail holds a bit, and otherwise one.
+keeps : (r : ℕ) (h : Hash) → taken r h .hash ≡ h
+unfolding taken
+keeps zero h = refl
+keeps (suc r) h = refl
+
+pub take-keeps : (h : Hash) (out : List ℕ) → takeAnswer h out .hash ≡ h
+unfolding takeAnswer
+take-keeps h out = keeps (takeRefusal h out) h
+
+one-or-two : (f : Family) (n : ℕ) → n < blockBits f → compressions f n ≡ cond (eqb n 0) 1 2
+unfolding compressions messageBlocks
+one-or-two small zero below = refl
+one-or-two large zero below = refl
+one-or-two small (suc n) below = rw eqb·suc-zero (omega arith)
+one-or-two large (suc n) below = rw eqb·suc-zero (omega arith)
+
+used-below : (f : Family) (n : ℕ) → n % blockBits f < blockBits f
+used-below small n = omega arith
+used-below large n = omega arith
+
+take-accepted : (h : Hash) (out : List ℕ) → legal h ≡ true → h .width / 8 ≤ length out → takeRefusal h out ≡ 0
+unfolding takeRefusal
+take-accepted h out good room = rw (good, le-leb (h .width / 8) (length out) room)
+
+take-whole : (h : Hash) (out : List ℕ) → legal h ≡ true → h .width / 8 ≤ length out
+    → takeAnswer h out ≡ record { hash = h; blocks = compressions (family h) (used h); refusal = 0 }
+unfolding takeAnswer taken
+take-whole h out good room = rw (take-accepted h out good room)
+
+pub take-blocks : (h : Hash) (out : List ℕ) → legal h ≡ true → h .width / 8 ≤ length out
+    → takeAnswer h out ≡ record { hash = h; blocks = cond (eqb (used h) 0) 1 2; refusal = 0 }
+take-blocks h out good room =
+    let blocks = one-or-two (family h) (used h) (used-below (family h) (h .bits)) in
+    take-whole h out good room ∙ λ i. record { hash = h; blocks = blocks i; refusal = 0 }
+
+-- From any legal hash, whether or not a message reaches it: the final state is worked out from its state, its tail, its bit length and the
+-- bits fed.
+pub from-any : (h : Hash) → Sized h → legal h ≡ true → (ps : List Piece) → Wholes ps → h .bits + length (joined ps) ≤ limit
+    → finalOf (feedAll h ps .hash)
+    ≡ compression (family h) true
+    (chain (family h) (reached h) (pending h ++ joined ps) (messageBlocks (family h) (length (pending h ++ joined ps))))
+    (lengthBlock (family h) (h .bits + length (joined ps)))
+from-any h s good ps whole short =
+    ap (λ (a : Fed). finalOf (a .hash)) (feed-all h s good ps whole short) ∙ final-advanced h s (joined ps) (bits-joined ps)
+
+-- Opened at a width, fed the pieces of any cutting of any message of at most the limit's bits, and taken: no piece is refused, the digest is
+-- the message's, and the blocks of the feeds and of the take are the message's compressions.
+pub record Hashed (width : ℕ) (m : List ℕ) (a : Fed) (out : List ℕ) : Type 0 where
+  pub accepted : a .refusal ≡ 0
+  pub answered : takeAnswer (a .hash) out .refusal ≡ 0
+  pub bytes : written (takeRefusal (a .hash) out) (digestOf (a .hash)) out ≡ digest width m ++ drop (width / 8) out
+  pub blocks : a .blocks + takeAnswer (a .hash) out .blocks ≡ compressions (familyOf width) (length m)
+
+-- That hash after bits were fed.
+module _ (width : ℕ) (known : isWidth width ≡ true) (m : List ℕ) (bit : Bits m) where
+  abbrev after : Hash
+  after = advanced (first width) m
+
+  pub after-width : advanced (first width) m .width ≡ width
+  unfolding advanced holding
+  after-width = refl
+
+  pub after-bits : advanced (first width) m .bits ≡ length m
+  unfolding advanced holding
+  after-bits = zero-add (length m)
+
+  pub after-legal : legal (advanced (first width) m) ≡ true
+  after-legal = advanced-legal (first width) (first-sized width known) m bit (first-legal width known)
+
+  after-final : finalOf after ≡ finalState width m
+  unfolding finalState final holding
+  after-final =
+      final-advanced (first width) (first-sized width known) m bit
+      ∙ rw (first-state width known, first-tail width known, zero-add (length m))
+
+  pub after-digest : digestOf (advanced (first width) m) ≡ digest width m
+  unfolding digestOf digest
+  after-digest = λ i. take (after-width i / 8) (bytesOf (after-final i))
+
+  after-blocks : fullBlocks (first width) (length m) + compressions (family after) (used after) ≡ compressions (familyOf width) (length m)
+  unfolding advanced holding compressions
+  after-blocks =
+      let count = message-blocks (first width) (first-sized width known) m in
+      let alone = rw (first-tail width known) at count in
+      omega (arith, alone)
+
+  module _ (out : List ℕ) (room : width / 8 ≤ length out) where
+    after-hashed : Hashed width m (record { hash = after; blocks = fullBlocks (first width) (length m); refusal = 0 }) out
+    unfolding written
+    after-hashed =
+        let fits : after .width / 8 ≤ length out = rw after-width room in
+        let size : length (digestOf after) ≡ width / 8 = digest-length after after-legal ∙ ap (λ (w : ℕ). w / 8) after-width in
+        record {
+          accepted = refl;
+          answered = rw (take-whole after out after-legal fits);
+          bytes =
+              ap (λ (r : ℕ). written r (digestOf after) out) (take-accepted after out after-legal fits)
+              ∙ λ i. after-digest i ++ drop (size i) out;
+          blocks = rw (take-whole after out after-legal fits) after-blocks;
+        }
+
+pub cutting : (width : ℕ) → isWidth width ≡ true → (ps : List Piece) → Wholes ps → length (joined ps) ≤ limit
+    → (out : List ℕ) → width / 8 ≤ length out → Hashed width (joined ps) (feedAll (openAnswer width .hash) ps) out
+unfolding holding
+cutting width known ps whole short out room =
+    let all = feed-all (first width) (first-sized width known) (first-legal width known) ps whole (omega arith) in
+    rw (open-known width known, all) (after-hashed width known (joined ps) (bits-joined ps) out room)
+
+opened-refusal : (r : ℕ) (h : Hash) → opened r h .refusal ≡ r
+unfolding opened
+opened-refusal zero h = refl
+opened-refusal (suc r) h = refl
+
+opened-known : (r : ℕ) (h : Hash) → r ≡ 0 → opened r h ≡ record { hash = h; refusal = 0 }
+unfolding opened
+opened-known r h none = ap (λ (r : ℕ). opened r h) none
+
+-- A hash that was stored and restored is the same hash, so that it goes on like the one stored.
+pub stored-restored : (h : Hash) → Value h → legal h ≡ true → restoreAnswer (formOf h) ≡ record { hash = h; refusal = 0 }
+unfolding restoreAnswer opened
+stored-restored h v good =
+    let hash = form-hash h v good in
+    rw (form-accepted h v good) (λ i. record { hash = hash i; refusal = 0 })
+
+pub goes-on : (h : Hash) → Value h → legal h ≡ true → (ps : List Piece) → feedAll (restoreAnswer (formOf h) .hash) ps ≡ feedAll h ps
+goes-on h v good ps = ap (λ (r : Opened). feedAll (r .hash) ps) (stored-restored h v good)
+
+-- An accepted form stored again is the same bytes, and its hash is legal, whether or not a message reaches its state.
+pub restored-stored : (form : List ℕ) → ((i : ℕ) → getD form i 0 < 256) → restoreAnswer form .refusal ≡ 0
+    → (formOf (restoreAnswer form .hash) ≡ form) × (legal (restoreAnswer form .hash) ≡ true) × Value (restoreAnswer form .hash)
+unfolding restoreAnswer
+restored-stored form fits e =
+    let none : restoreRefusal form ≡ 0 = sym (opened-refusal (restoreRefusal form) (hashOf form)) ∙ e in
+    let facts = form-facts form none in
+    rw (opened-known (restoreRefusal form) (hashOf form) none)
+    (read-form form fits facts, read-legal form fits facts, read-value form fits facts)

@@ -1,0 +1,59 @@
+-- Laws of the message that a byte string and a count of bits stand for, and of the blocks of a byte string.
+use mathlib.Core.List.{List}
+use mathlib.Core.Path.{_≡_, sym, ap, _∙_}
+use Prim.Native.Nat.{ℕ, _+_, _*_, _-_, _/_, _%_, _^_, _<_}
+use native.Mathlib.Decide.{decLt}
+use native.Mathlib.Omega.{arith}
+use lib.ListN.{length, getD, take, length-take}
+use lib.Seq.{getD-take}
+use Rattle.simd.specs.Basic.{Family, small, large, blockBytes, table}
+use Rattle.simd.specs.Message.{bitsOf, message, block, messageBlocks}
+use Rattle.simd.specs.Hash.{chain}
+use Rattle.laws.proofs.Bits.{length-bitsOf, bits-bitsOf, bits-take, getD-take-past, byte-ext, byte-bitsOf}
+use Rattle.laws.proofs.Chain.{chain-ext}
+use Rattle.laws.proofs.Table.{table-ext}
+use Rattle.pairs.proofs.MessageLaws.{IsMessage}
+use Rattle.pairs.proofs.RefusalLaws.{used, Accepted, bit-at}
+
+module _ (bytes : List ℕ) (count : ℕ) (w : Accepted bytes count) where
+  pub length-message : length (message bytes count) ≡ count
+  unfolding message
+  length-message = omega (arith, length-take count (bitsOf bytes), length-bitsOf bytes, w .fits)
+
+  pub is-message : IsMessage (message bytes count)
+  unfolding message
+  is-message = record { bits = bits-take count (bitsOf bytes) (bits-bitsOf bytes); short = omega (arith, length-message, w .short) }
+
+  -- The bits of the message are those of the bytes used, zeros past the end of either.
+  pub same-bits : (i : ℕ) → getD (message bytes count) i 0 ≡ getD (bitsOf (take (used count) bytes)) i 0
+  unfolding message
+  same-bits i = elim (decLt i count) [
+    | yes low ↦
+        let byte = getD-take (used count) bytes (i / 8) 0 (omega arith) in
+        getD-take count (bitsOf bytes) i 0 low ∙ bit-at bytes i
+        ∙ sym (bit-at (take (used count) bytes) i ∙ ap (λ (b : ℕ). b / 2 ^ (7 - i % 8) % 2) byte)
+    | no past ↦ getD-take-past count (bitsOf bytes) i (omega arith) ∙ sym (w .clear i (omega arith))
+  ]
+
+-- The blocks of the bytes used are those of the message.
+pub used-blocks : (f : Family) (count l : ℕ) → l ≡ used count → (l + (blockBytes f - 1)) / blockBytes f ≡ messageBlocks f count
+unfolding messageBlocks
+used-blocks small count l e = omega arith
+used-blocks large count l e = omega arith
+
+-- Messages with the same bits, zeros past the end included, have the same blocks and states.
+module _ (m n : List ℕ) (same : (i : ℕ) → getD m i 0 ≡ getD n i 0) where
+  pub same-blocks : (f : Family) (k : ℕ) → block f m k ≡ block f n k
+  unfolding block
+  same-blocks f k =
+      table-ext (blockBytes f) _ _ (λ j _. byte-ext m n (blockBytes f * k + j) (blockBytes f * k + j) (λ t _. same (8 * (blockBytes f * k + j) + t)))
+
+  pub same-chain : (f : Family) (from : List ℕ) (k : ℕ) → chain f from m k ≡ chain f from n k
+  same-chain f from k = chain-ext f from m n k (λ j _. byte-ext m n j j (λ t _. same (8 * j + t)))
+
+-- A block of a byte string: its bytes, with zeros past the end.
+pub block-of-bytes : (f : Family) (bytes : List ℕ) (k : ℕ) → ((j : ℕ) → getD bytes j 0 < 256)
+    → block f (bitsOf bytes) k ≡ table (blockBytes f) (λ j. getD bytes (blockBytes f * k + j) 0)
+unfolding block
+block-of-bytes f bytes k are-bytes =
+    table-ext (blockBytes f) _ _ (λ j _. byte-bitsOf bytes (blockBytes f * k + j) (are-bytes (blockBytes f * k + j)))

@@ -1,0 +1,212 @@
+-- What any cutting of a message through simd_open, simd_feed and simd_take gives, of the definitions that their contracts cite: the digest
+-- that simd_hash writes, and the message's compressions.
+use mathlib.Core.Bool.{true}
+use mathlib.Core.List.{List, [], _∷_, _++_, append-nil}
+use mathlib.Core.Path.{_≡_, refl, sym, ap, _∙_}
+use Prim.Native.Nat.{ℕ, _+_, _/_, _≤_}
+use native.Mathlib.Omega.{arith}
+use borrow.Author.Tests.{le-leb}
+use lib.ListN.{length, drop, length-append}
+use lib.Seq.{drop-length}
+use Rattle.simd.specs.Basic.{familyOf, isWidth}
+use Rattle.simd.specs.Message.{message}
+use Rattle.simd.specs.Hash.{chain, digest, compressions}
+use Rattle.laws.proofs.Bits.{Bits}
+use Rattle.tail.proofs.Sizes.{words-within, chain-length}
+use Rattle.tail.proofs.Zeros.{getD-padded}
+use Rattle.hash.specs.Open.{limit, family, legal, reached, pending, holding, openAnswer, fullBlocks, advanced, feedAnswer, takeAnswer, takeRefusal, digestOf, written}
+use Rattle.hash.specs.Form.{formBytes, formOf, storeRefusal, storeAnswer, restoreAnswer}
+use Rattle.hash.specs.declared.Hash.{Hash}
+use Rattle.hash.specs.declared.Opened.{Opened}
+use Rattle.hash.specs.declared.Fed.{Fed}
+use Rattle.hash.proofs.Holding.{Value, length-reached}
+use Rattle.hash.proofs.Feeding.{Whole, advanced-sized, advanced-bits, advanced-legal, fed-whole, length-message, bits-message}
+use Rattle.hash.proofs.Storing.{reached-fits, form-length}
+use Rattle.hash_theorems.proofs.Theorems.{Piece, joined, feedAll, Wholes, open-known, feed-all, bits-joined, cutting, stored-restored}
+use Rattle.simd_c.specs.Calls.{first, stored, openedHash, openCall, fedFrom, feedCall, takeCall}
+use Rattle.simd_c.proofs.Laws.{written-accepted, stored-accepted}
+use Rattle.simd_c.proofs.Fitting.{chain-fits}
+use Rattle.simd_c.proofs.Opening.{opened-legal, opened-value, opened-bits}
+use Rattle.simd_c.proofs.Answers.{take-refused}
+
+-- The form that simd_open leaves, and the form and the sum of the blocks that simd_feed leaves, called for one piece after the other. The
+-- refusals are summed too, so that 0 says that no call was refused.
+unfoldable pub openedForm : ℕ → List ℕ → List ℕ
+openedForm width form = written (openCall width form) (formOf (openedHash width)) form
+
+pub record Feeds : Type 0 where
+  pub form : List ℕ
+  pub blocks : ℕ
+  pub refusal : ℕ
+
+unfoldable pub feeds : List ℕ → List Piece → Feeds
+feeds form [] = record { form = form; blocks = 0; refusal = 0 }
+feeds form (p ∷ ps) =
+    let refusal = feedCall form (p .bytes) (p .count) in
+    let fed = fedFrom form (p .bytes) (p .count) in
+    let rest = feeds (written refusal (formOf (fed .hash)) form) ps in
+    record { form = rest .form; blocks = stored refusal (fed .blocks) 0 + rest .blocks; refusal = refusal + rest .refusal }
+
+-- What simd_take leaves of a form, in the output and in the number of its blocks.
+unfoldable pub takenBytes : List ℕ → List ℕ → List ℕ
+takenBytes form out = written (takeCall form out) (digestOf (restoreAnswer form .hash)) out
+
+unfoldable pub takenBlocks : List ℕ → List ℕ → ℕ
+takenBlocks form out = stored (takeCall form out) (takeAnswer (restoreAnswer form .hash) out .blocks) 0
+
+-- A hash that was fed is again one that a form can hold.
+advanced-value : (h : Hash) → Value h → (m : List ℕ) → Bits m → h .bits + length m ≤ limit → Value (advanced h m)
+unfolding advanced holding
+advanced-value h v m bit short =
+    let f = family h in
+    let k = fullBlocks h (length m) in
+    let state = chain f (reached h) (pending h ++ m) k in
+    let size = chain-length f (reached h) (pending h ++ m) k (length-reached h (v .sized .words)) in
+    record {
+      sized = advanced-sized h (v .sized) m bit;
+      width-fits = v .width-fits;
+      bits-fit = omega (arith, short);
+      word-fits = λ i.
+          rw (getD-padded 32 state i (omega (arith, size, words-within f)))
+          (chain-fits f (reached h) (pending h ++ m) k (reached-fits h (v .word-fits)) i);
+    }
+
+-- A form stored over one of the same size is all of it.
+stored-over : (new old : List ℕ) → length new ≡ length old → new ++ drop (length new) old ≡ new
+stored-over new old same = ap (λ n. new ++ drop n old) same ∙ ap (λ l. new ++ l) (drop-length old) ∙ append-nil new
+
+-- One feed.
+module _ (h : Hash) (v : Value h) (good : legal h ≡ true) (bytes : List ℕ) (count : ℕ) (whole : Whole bytes count) (short : h .bits + count ≤ limit) where
+  abbrev m : List ℕ
+  m = message bytes count
+
+  bit : Bits m
+  bit = bits-message bytes count
+
+  total : h .bits + length m ≤ limit
+  total = omega (arith, short, length-message bytes count (whole .within))
+
+  next-value : Value (advanced h m)
+  next-value = advanced-value h v m bit total
+
+  next-legal : legal (advanced h m) ≡ true
+  next-legal = advanced-legal h (v .sized) m bit good
+
+  read : restoreAnswer (formOf h) ≡ record { hash = h; refusal = 0 }
+  read = stored-restored h v good
+
+  one-fed : fedFrom (formOf h) bytes count ≡ record { hash = advanced h m; blocks = fullBlocks h (length m); refusal = 0 }
+  unfolding fedFrom
+  one-fed = ap (λ (o : Opened). feedAnswer (o .hash) bytes count) read ∙ fed-whole h bytes count good whole short
+
+  same-size : length (formOf (advanced h m)) ≡ length (formOf h)
+  unfolding advanced holding
+  same-size = form-length (advanced h m) next-value next-legal ∙ sym (form-length h v good)
+
+  one-accepted : feedCall (formOf h) bytes count ≡ 0
+  unfolding feedCall first storeAnswer storeRefusal
+  one-accepted =
+      let size = form-length (advanced h m) next-value next-legal in
+      let room = le-leb (formBytes (family (advanced h m))) (length (formOf h)) (omega (arith, size, same-size)) in
+      rw (read, one-fed, next-legal, room)
+
+  one-form : written (feedCall (formOf h) bytes count) (formOf (fedFrom (formOf h) bytes count .hash)) (formOf h) ≡ formOf (advanced h m)
+  one-form =
+      ap (λ (a : Fed). written (feedCall (formOf h) bytes count) (formOf (a .hash)) (formOf h)) one-fed
+      ∙ written-accepted _ (formOf (advanced h m)) (formOf h) one-accepted
+      ∙ stored-over (formOf (advanced h m)) (formOf h) same-size
+
+  one-blocks : stored (feedCall (formOf h) bytes count) (fedFrom (formOf h) bytes count .blocks) 0 ≡ fullBlocks h (length m)
+  one-blocks = stored-accepted _ _ 0 one-accepted ∙ ap (λ (a : Fed). a .blocks) one-fed
+
+-- All feeds: from the form of a hash to that of the hash fed with all pieces.
+feeds-all : (h : Hash) → Value h → legal h ≡ true → (ps : List Piece) → Wholes ps → h .bits + length (joined ps) ≤ limit
+    → feeds (formOf h) ps ≡ record { form = formOf (feedAll h ps .hash); blocks = feedAll h ps .blocks; refusal = 0 }
+unfolding feeds feedAll joined
+feeds-all h v good [] whole short = refl
+feeds-all h v good (p ∷ ps) whole short =
+    let m = message (p .bytes) (p .count) in
+    let size = length-message (p .bytes) (p .count) (whole .0 .within) in
+    let both = length-append m (joined ps) in
+    let within : h .bits + p .count ≤ limit = omega arith in
+    let left : advanced h m .bits + length (joined ps) ≤ limit = omega (arith, advanced-bits h m) in
+    let value = next-value h v good (p .bytes) (p .count) (whole .0) within in
+    let rest = feeds-all (advanced h m) value (next-legal h v good (p .bytes) (p .count) (whole .0) within) ps (whole .1) left in
+    let accepted = one-accepted h v good (p .bytes) (p .count) (whole .0) within in
+    let run = ap (λ (l : List ℕ). feeds l ps) (one-form h v good (p .bytes) (p .count) (whole .0) within) ∙ rest in
+    let blocks = one-blocks h v good (p .bytes) (p .count) (whole .0) within in
+    let answer = sym (fed-whole h (p .bytes) (p .count) good (whole .0) within) in
+    let after = ap (λ (a : Fed). feedAll (a .hash) ps) answer in
+    (λ i. record { form = run i .form; blocks = blocks i + run i .blocks; refusal = accepted i + run i .refusal })
+    ∙ λ i. record { form = formOf (after i .hash); blocks = answer i .blocks + after i .blocks; refusal = 0 }
+
+-- A take.
+module _ (h : Hash) (v : Value h) (good : legal h ≡ true) (out : List ℕ) (answered : takeAnswer h out .refusal ≡ 0) where
+  take-accepted : takeCall (formOf h) out ≡ 0
+  unfolding takeCall first
+  take-accepted = rw (stored-restored h v good) answered
+
+  take-bytes : takenBytes (formOf h) out ≡ written (takeRefusal h out) (digestOf h) out
+  unfolding takenBytes
+  take-bytes =
+      let call = take-accepted ∙ sym answered ∙ take-refused h out in
+      let read = stored-restored h v good in
+      λ i. written (call i) (digestOf (read i .hash)) out
+
+  take-blocks : takenBlocks (formOf h) out ≡ takeAnswer h out .blocks
+  unfolding takenBlocks
+  take-blocks = stored-accepted _ _ 0 take-accepted ∙ ap (λ (o : Opened). takeAnswer (o .hash) out .blocks) (stored-restored h v good)
+
+-- A form of the width's size, opened, fed the pieces of any cutting of any message of at most the limit's bits, and taken: no call is
+-- refused, the digest is the message's, and the blocks reported are the message's compressions.
+pub record Through (width : ℕ) (form : List ℕ) (ps : List Piece) (out : List ℕ) : Type 0 where
+  pub opened : openCall width form ≡ 0
+  pub fed : feeds (openedForm width form) ps .refusal ≡ 0
+  pub taken : takeCall (feeds (openedForm width form) ps .form) out ≡ 0
+  pub bytes : takenBytes (feeds (openedForm width form) ps .form) out ≡ digest width (joined ps) ++ drop (width / 8) out
+  pub blocks : feeds (openedForm width form) ps .blocks + takenBlocks (feeds (openedForm width form) ps .form) out
+      ≡ compressions (familyOf width) (length (joined ps))
+
+module _ (width : ℕ) (known : isWidth width ≡ true) (form : List ℕ) (size : length form ≡ formBytes (familyOf width)) where
+  abbrev h : Hash
+  h = openAnswer width .hash
+
+  v : Value h
+  v = opened-value width known
+
+  good : legal h ≡ true
+  good = opened-legal width known
+
+  first-size : length (formOf h) ≡ length form
+  unfolding holding
+  first-size = form-length h v good ∙ ap (λ (o : Opened). formBytes (family (o .hash))) (open-known width known) ∙ sym size
+
+  open-accepted : openCall width form ≡ 0
+  unfolding openCall first storeAnswer openedHash storeRefusal
+  open-accepted =
+      let room = le-leb (formBytes (family h)) (length form) (omega (arith, form-length h v good, first-size)) in
+      rw (good, room, open-known width known)
+
+  open-form : openedForm width form ≡ formOf h
+  unfolding openedForm openedHash
+  open-form = written-accepted _ (formOf h) form open-accepted ∙ stored-over (formOf h) form first-size
+
+  pub cutting-through : (ps : List Piece) → Wholes ps → length (joined ps) ≤ limit → (out : List ℕ) → width / 8 ≤ length out → Through width form ps out
+  cutting-through ps whole short out room =
+      let within : h .bits + length (joined ps) ≤ limit = omega (arith, short, opened-bits width known) in
+      let a = feedAll h ps .hash in
+      let advance = feed-all h (v .sized) good ps whole within in
+      let run = ap (λ (l : List ℕ). feeds l ps) open-form ∙ feeds-all h v good ps whole within in
+      let a-value : Value a = rw advance (advanced-value h v (joined ps) (bits-joined ps) within) in
+      let a-legal : legal a ≡ true = rw advance (advanced-legal h (v .sized) (joined ps) (bits-joined ps) good) in
+      let hashed = cutting width known ps whole short out room in
+      record {
+        opened = open-accepted;
+        fed = ap (λ (r : Feeds). r .refusal) run;
+        taken = ap (λ (r : Feeds). takeCall (r .form) out) run ∙ take-accepted a a-value a-legal out (hashed .answered);
+        bytes = ap (λ (r : Feeds). takenBytes (r .form) out) run ∙ take-bytes a a-value a-legal out (hashed .answered) ∙ hashed .bytes;
+        blocks =
+            ap (λ (r : Feeds). r .blocks + takenBlocks (r .form) out) run
+            ∙ ap (λ (n : ℕ). feedAll h ps .blocks + n) (take-blocks a a-value a-legal out (hashed .answered))
+            ∙ hashed .blocks;
+      }
