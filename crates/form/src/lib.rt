@@ -22,7 +22,7 @@ pub fn write_words(out: &mut [u8], words: [u32; 32])
 }
 
 // Writes a number, low byte first.
-pub fn write_number(out: &mut [u8], number: u64)
+fn write_number(out: &mut [u8], number: u64)
     ensures { λ _. ⌜ now (out .exit) ≡ littleEndian (length (now (out .entry))) number ⌝ }
 {
     let mut rest = number;
@@ -35,7 +35,7 @@ pub fn write_number(out: &mut [u8], number: u64)
 }
 
 // Writes the first bytes of a source, as many as the buffer takes.
-pub fn write_bytes(out: &mut [u8], src: &[u8])
+fn write_bytes(out: &mut [u8], src: &[u8])
     requires { ⌜ length (now out) ≤ length (now src) ⌝ }
     ensures { λ _. ⌜ now (out .exit) ≡ take (length (now (out .entry))) (now (src .entry)) ⌝ }
 {
