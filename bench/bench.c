@@ -21,7 +21,7 @@ void sse2_compress(int large, int last, uint32_t *state, const uint8_t *block);
 enum { LONG = 1 << 16, SHORT = 64, SHORTS = 256, TURNS = 200 };
 enum { LIBRARY, PORTABLE, SSE2, WHO };
 
-static uint8_t message[LONG + 1], other[LONG + 1], out[SIMD_DIGEST_MAX];
+static uint8_t message[LONG + 1], other[LONG + 1], another[LONG + 1], out[SIMD_DIGEST_MAX];
 static uint8_t form[SIMD_FORM_LARGE], fresh[SIMD_FORM_LARGE];
 static uint64_t number, verdict;
 
@@ -121,16 +121,26 @@ static void shorts(int who, int width)
         hash_with(who, width, message + k, SHORT);
 }
 
-/* Two long messages that differ in their last byte; the baselines hash both. */
-static void comparison(int who, int width)
+/* Two long messages; the baselines hash both. */
+static void compare_with(int who, int width, const uint8_t *second)
 {
     if (who == LIBRARY) {
         refused(simd_compare((uint16_t)width, message, LONG, 8 * (uint64_t)LONG,
-                             other, LONG, 8 * (uint64_t)LONG, &verdict, &number));
+                             second, LONG, 8 * (uint64_t)LONG, &verdict, &number));
         return;
     }
     hash_with(who, width, message, LONG);
-    hash_with(who, width, other, LONG);
+    hash_with(who, width, second, LONG);
+}
+
+static void differ_last(int who, int width)
+{
+    compare_with(who, width, other);
+}
+
+static void differ_first(int who, int width)
+{
+    compare_with(who, width, another);
 }
 
 struct task {
@@ -145,7 +155,8 @@ static const struct task TASKS[] = {
     {"long piece, tail of 8 bits", feed_byte, LONG},
     {"long piece, tail of 3 bits", feed_odd, LONG},
     {"64-byte messages", shorts, SHORT * SHORTS},
-    {"comparison of long messages", comparison, 2 * LONG},
+    {"comparison, last byte differs", differ_last, 2 * LONG},
+    {"comparison, first byte differs", differ_first, 2 * LONG},
 };
 enum { COUNT = sizeof TASKS / sizeof *TASKS };
 static const int WIDTHS[] = {256, 512};
@@ -214,8 +225,9 @@ static void check(void)
 int main(int argc, char **argv)
 {
     for (int k = 0; k < LONG; k++)
-        other[k] = message[k] = (uint8_t)(k * 167 + (k >> 8));
+        another[k] = other[k] = message[k] = (uint8_t)(k * 167 + (k >> 8));
     other[LONG - 1] ^= 1;
+    another[0] ^= 1;
     sse2_prepare();
     if (argc == 4 && strcmp(argv[1], "count") == 0) {
         int which = atoi(argv[2]), width = WIDTHS[which % 2];

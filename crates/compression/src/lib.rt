@@ -17,7 +17,8 @@ pub mod small;
 pub fn absorb_small(state: &mut [u32; 16], bytes: &[u8])
     ensures { λ _. ⌜ now (state .exit) ≡ absorbed smallFamily (now (state .entry)) (now (bytes .entry)) (length (now (bytes .entry)) / 64) ⌝ }
 {
-    let roots = transform_tables::roots();
+    let mut roots = [0u16; 512];
+    transform_tables::fill_roots(&mut roots);
     let mut trail = [[0u32; 4]; 36];
     let added = transform_tables::added_small(false);
     let blocks = bytes.len() / 64;
@@ -34,7 +35,8 @@ pub fn absorb_small(state: &mut [u32; 16], bytes: &[u8])
 pub fn absorb_large(state: &mut [u32; 32], bytes: &[u8])
     ensures { λ _. ⌜ now (state .exit) ≡ absorbed largeFamily (now (state .entry)) (now (bytes .entry)) (length (now (bytes .entry)) / 128) ⌝ }
 {
-    let roots = transform_tables::roots();
+    let mut roots = [0u16; 512];
+    transform_tables::fill_roots(&mut roots);
     let mut trail = [[0u32; 8]; 36];
     let added = transform_tables::added_large(false);
     let blocks = bytes.len() / 128;
@@ -51,7 +53,8 @@ pub fn absorb_large(state: &mut [u32; 32], bytes: &[u8])
 pub fn finish_small(state: &mut [u32; 16], bits: u64)
     ensures { λ _. ⌜ now (state .exit) ≡ compression smallFamily true (now (state .entry)) (lengthBlock smallFamily bits) ⌝ }
 {
-    let roots = transform_tables::roots();
+    let mut roots = [0u16; 512];
+    transform_tables::fill_roots(&mut roots);
     let mut trail = [[0u32; 4]; 36];
     let added = transform_tables::added_small(true);
     let last = block::length_small(bits);
@@ -62,7 +65,8 @@ pub fn finish_small(state: &mut [u32; 16], bits: u64)
 pub fn finish_large(state: &mut [u32; 32], bits: u64)
     ensures { λ _. ⌜ now (state .exit) ≡ compression largeFamily true (now (state .entry)) (lengthBlock largeFamily bits) ⌝ }
 {
-    let roots = transform_tables::roots();
+    let mut roots = [0u16; 512];
+    transform_tables::fill_roots(&mut roots);
     let mut trail = [[0u32; 8]; 36];
     let added = transform_tables::added_large(true);
     let last = block::length_large(bits);

@@ -2,33 +2,49 @@
 use mathlib.Core.List.{List, _++_}
 use mathlib.Core.Path.{_≡_, refl, sym, ap, _∙_}
 use Prim.Native.Nat.{ℕ, zero, suc, _+_, _*_, _/_, _%_, _^_, _<_, _≤_}
-use native.Mathlib.Nat.{pow-suc, pow-succ', div-div-eq-div-mul, mod-eq-of-lt}
+use native.Mathlib.Nat.{pow-suc, div-div-eq-div-mul, mod-eq-of-lt}
 use native.Mathlib.Numerals.{add-one}
 use native.Mathlib.Omega.{arith}
-use lib.ListN.{length, getD, take, length-take, List·getD-append}
-use lib.Pow.{pow-add}
+use lib.Dec.{lit<}
+use lib.ListN.{length, getD, take, set, length-take, List·getD-append}
 use lib.Seq.{getD-take}
 use Rattle.simd.specs.Basic.{bytesOf, table}
 use Rattle.laws.proofs.Table.{length-table, getD-table, table-of, table-ext}
 use Rattle.laws.proofs.Sum.{sum-ext}
 use Rattle.laws.proofs.LittleEndian.{digits-sum, sum-digits, getD-bytesOf, length-bytesOf}
 use Rattle.tail.specs.Zero.{padded}
+use Rattle.tail.proofs.Filling.{Filled, filled-more}
 use Rattle.tail.proofs.Zeros.{getD-padded, length-padded}
 use Rattle.form.specs.Numbers.{littleEndian, number}
 
 -- Bytes of words.
-pub power-256 : (r : ℕ) → 2 ^ (8 * r) ≡ 256 ^ r
-power-256 zero = refl
-power-256 (suc r) =
-    let place : 8 * suc r ≡ 8 + 8 * r = omega arith in
-    ap (λ (n : ℕ). 2 ^ n) place ∙ pow-add 2 8 (8 * r) ∙ ap (λ (n : ℕ). 256 * n) (power-256 r) ∙ sym (pow-succ' 256 r)
-
 pub wordByte : List ℕ → ℕ → ℕ
 wordByte words j = getD words (j / 4) 0 / 256 ^ (j % 4) % 256
 
-pub word-byte-of : (words : List ℕ) (j : ℕ) → getD words (j / 4) 0 / 2 ^ (8 * (j % 4)) % 256 ≡ wordByte words j
+word-part : (words : List ℕ) (i k : ℕ) → k < 4 → getD words i 0 / 256 ^ k % 256 ≡ wordByte words (4 * i + k)
 unfolding wordByte
-word-byte-of words j = ap (λ (p : ℕ). getD words (j / 4) 0 / p % 256) (power-256 (j % 4))
+word-part words i k less =
+    let word : i ≡ (4 * i + k) / 4 = omega arith in
+    let place : k ≡ (4 * i + k) % 4 = omega arith in
+    λ t. getD words (word t) 0 / 256 ^ place t % 256
+
+-- One more word written.
+pub word-more : (n i : ℕ) (words out : List ℕ) → Filled n (4 * i) (wordByte words) out → 4 * i + 3 < n
+    → Filled n (4 * (i + 1)) (wordByte words)
+    (set (set (set (set out (4 * i) (getD words i 0 % 256)) (4 * i + 1) (getD words i 0 / 2 ^ 8 % 256)) (4 * i + 2) (getD words i 0 / 2 ^ 16 % 256)) (4 * i + 3) (getD words i 0 / 2 ^ 24 % 256))
+word-more n i words out f below =
+    let w = getD words i 0 in
+    let low : w % 256 ≡ w / 1 % 256 = omega arith in
+    let start : 4 * i + 0 ≡ 4 * i = omega arith in
+    let first : w % 256 ≡ wordByte words (4 * i) = low ∙ word-part words i 0 (lit< tt) ∙ ap (wordByte words) start in
+    let one = filled-more n (4 * i) (wordByte words) out (w % 256) f (omega arith) first in
+    let two = filled-more n (4 * i + 1) (wordByte words) _ (w / 2 ^ 8 % 256) one (omega arith) (word-part words i 1 (lit< tt)) in
+    let at-two : 4 * i + 1 + 1 ≡ 4 * i + 2 = omega arith in
+    let three = filled-more n (4 * i + 2) (wordByte words) _ (w / 2 ^ 16 % 256) (rw at-two at two) (omega arith) (word-part words i 2 (lit< tt)) in
+    let at-three : 4 * i + 2 + 1 ≡ 4 * i + 3 = omega arith in
+    let four = filled-more n (4 * i + 3) (wordByte words) _ (w / 2 ^ 24 % 256) (rw at-three at three) below (word-part words i 3 (lit< tt)) in
+    let next : 4 * i + 3 + 1 ≡ 4 * (i + 1) = omega arith in
+    rw next at four
 
 pub take-bytes : (n : ℕ) (words : List ℕ) → n ≤ 4 * length words → take n (bytesOf words) ≡ table n (wordByte words)
 unfolding wordByte

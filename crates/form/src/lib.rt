@@ -2,21 +2,25 @@
 
 ghost use mathlib.Core.Path.{_≡_};
 ghost use mathlib.Core.List.{_++_};
-ghost use Prim.Native.Nat.{_+_, _*_, _≤_};
+ghost use Prim.Native.Nat.{_+_, _*_, _%_, _≤_};
 ghost use lib.ListN.{length, take, drop};
 ghost use Rattle.simd.specs.Basic.{bytesOf, wordsOf};
 ghost use Rattle.tail.specs.Zero.{padded};
 ghost use Rattle.form.specs.Numbers.{littleEndian, number, formWidth};
 
-// Writes the bytes of words, low byte first, as many as the buffer takes.
+// Writes the bytes of words, low byte first, as many words as the buffer takes.
 pub fn write_words(out: &mut [u8], words: [u32; 32])
-    requires { ⌜ length (now out) ≤ 128 ⌝ }
+    requires { ⌜ (length (now out) ≤ 128) × (length (now out) % 4 ≡ 0) ⌝ }
     ensures { λ _. ⌜ now (out .exit) ≡ take (length (now (out .entry))) (bytesOf words) ⌝ }
 {
+    let count = out.len() / 4;
     let mut i = 0;
-    while i < out.len() {
-        let word = words[i / 4];
-        out[i] = ((word >> (8 * (i % 4))) % 256) as u8;
+    while i < count {
+        let word = words[i];
+        out[4 * i] = (word % 256) as u8;
+        out[4 * i + 1] = ((word >> 8) % 256) as u8;
+        out[4 * i + 2] = ((word >> 16) % 256) as u8;
+        out[4 * i + 3] = ((word >> 24) % 256) as u8;
         i += 1;
     }
 }
@@ -48,7 +52,7 @@ fn write_bytes(out: &mut [u8], src: &[u8])
 
 // Writes the stored form of a hash.
 pub fn write_form(width: u16, bits: u32, state: [u32; 32], tail: &[u8], size: usize, out: &mut [u8])
-    requires { ⌜ (length (now out) ≡ 6 + 2 * size) × (size ≤ 128) × (length (now tail) ≡ 128) ⌝ }
+    requires { ⌜ (length (now out) ≡ 6 + 2 * size) × (size ≤ 128) × (length (now tail) ≡ 128) × (size % 4 ≡ 0) ⌝ }
     ensures { λ _. ⌜ now (out .exit)
         ≡ littleEndian 2 width ++ littleEndian 4 bits ++ take size (bytesOf state) ++ take size (now (tail .entry)) ⌝ }
 {

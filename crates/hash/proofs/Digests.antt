@@ -1,7 +1,7 @@
 -- The length of a digest.
 use mathlib.Core.Bool.{true}
-use mathlib.Core.Path.{_≡_}
-use Prim.Native.Nat.{ℕ, _*_, _/_, _≤_}
+use mathlib.Core.Path.{_≡_, refl}
+use Prim.Native.Nat.{ℕ, _*_, _/_, _%_, _≤_}
 use native.Mathlib.Omega.{arith}
 use lib.Dec.{lit≤}
 use lib.ListN.{length, length-take}
@@ -9,20 +9,19 @@ use mathlib.Core.List.{List}
 use Rattle.simd.specs.Basic.{familyOf, isWidth, stateWords, bytesOf}
 use Rattle.simd.specs.Message.{messageBlocks, lengthBlock}
 use Rattle.simd.specs.Hash.{chain}
-use Rattle.laws.proofs.Table.{length-table}
+use Rattle.laws.proofs.LittleEndian.{length-bytesOf}
 use Rattle.laws.proofs.Chain.{length-compression}
 use Rattle.hash.specs.Open.{family, used, reached, pending, legal, finalOf, digestOf}
 use Rattle.hash.specs.declared.Hash.{Hash}
 use Rattle.hash.proofs.Holding.{legal-width}
 use Rattle.hash.proofs.Feeding.{at-widths}
 
-pub length-bytesOf : (words : List ℕ) → length (bytesOf words) ≡ 4 * length words
-unfolding bytesOf
-length-bytesOf words = length-table (4 * length words) _
-
--- The digest of a hash is width / 8 bytes.
+-- The digest of a hash is width / 8 bytes, whole words.
 pub digest-room : (width : ℕ) → isWidth width ≡ true → width / 8 ≤ 4 * stateWords (familyOf width)
 digest-room = at-widths (λ (w : ℕ). w / 8 ≤ 4 * stateWords (familyOf w)) (lit≤ tt) (lit≤ tt) (lit≤ tt) (lit≤ tt)
+
+pub digest-words : (width : ℕ) → isWidth width ≡ true → width / 8 % 4 ≡ 0
+digest-words = at-widths (λ (w : ℕ). w / 8 % 4 ≡ 0) refl refl refl refl
 
 pub digest-length : (h : Hash) → legal h ≡ true → length (digestOf h) ≡ h .width / 8
 unfolding digestOf finalOf bytesOf

@@ -14,7 +14,8 @@ use Rattle.laws.proofs.Chain.{length-compression}
 use Rattle.tail.specs.Zero.{clear}
 use Rattle.hash.specs.Open.{limit}
 use Rattle.hash.proofs.Feeding.{at-widths}
-use Rattle.hash.proofs.Digests.{length-bytesOf, digest-room}
+use Rattle.laws.proofs.LittleEndian.{length-bytesOf}
+use Rattle.hash.proofs.Digests.{digest-room}
 use Rattle.reader.specs.declared.Command.{Command}
 use Rattle.reader.specs.declared.Command.the-variants.{Open, Full, Part, Take, Stop}
 use Rattle.reader.specs.declared.Reading.{Reading}

@@ -1121,14 +1121,22 @@ fn scaled_rows(t: &mut [u16])
     }
 }
 
+// Makes the table of roots in a lent array: an array that is handed back is copied once more.
+pub fn fill_roots(t: &mut [u16])
+    requires { ⌜ length (now t) ≡ 512 ⌝ }
+    ensures { λ r. ⌜ Roots (now (t .exit)) ⌝ }
+{
+    let p = powers();
+    last_row(&p, t);
+    earlier_rows(t);
+    scaled_rows(t);
+}
+
 // The table of roots.
 pub fn roots() -> [u16; 512]
     ensures { λ r. ⌜ Roots r ⌝ }
 {
-    let p = powers();
     let mut t = [0u16; 512];
-    last_row(&p, &mut t);
-    earlier_rows(&mut t);
-    scaled_rows(&mut t);
+    fill_roots(&mut t);
     t
 }

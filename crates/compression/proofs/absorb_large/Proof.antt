@@ -15,8 +15,11 @@ Inv-loop state₀ bytes roots trail₀ added blocks k₀ state trail k = (k ≤ 
 abbrev μ-loop : tie.MeasureT-loop
 μ-loop state₀ bytes roots trail₀ added blocks k₀ state trail k = blocks - k
 
-roots-requires : tie.Need-roots-requires Inv-loop μ-loop
-roots-requires c κs = search needs
+slice-aggregate-fill-roots : tie.Need-slice-aggregate-fill-roots Inv-loop μ-loop
+slice-aggregate-fill-roots c = search needs
+
+fill-roots-requires : tie.Need-fill-roots-requires Inv-loop μ-loop
+fill-roots-requires c κs = search needs
 
 added-large-requires : tie.Need-added-large-requires Inv-loop μ-loop
 added-large-requires c κs = search needs
@@ -41,7 +44,7 @@ part-compress-end : tie.Need-part-compress-end Inv-loop μ-loop
 part-compress-end c = omega arith
 
 compress-requires : tie.Need-compress-requires Inv-loop μ-loop
-compress-requires c κs = ((simp (length-take, length-drop) (omega arith), c .before .before .before .before .before .before .before .before .roots .ensures), c .before .before .before .before .before .before .before .added-large .ensures)
+compress-requires c κs = ((simp (length-take, length-drop) (omega arith), c .before .before .before .before .before .before .before .before .before .fill-roots .ensures), c .before .before .before .before .before .before .before .added-large .ensures)
 
 add-k : tie.Need-add-k Inv-loop μ-loop
 add-k c = omega arith
@@ -51,7 +54,7 @@ loop-less c = omega arith
 
 loop-again : tie.Need-loop-again Inv-loop μ-loop
 loop-again c =
-    let p = c .before .before .before .before .before .before .before .before .before .before .before .args in
+    let p = c .before .before .before .before .before .before .before .before .before .before .before .before .before .args in
     let at = c .before .before .before .before .before .before .before .loop in (
       omega arith,
       absorbed-more large (p .state .now) (p .bytes .now) (at .k) ((128 * at .k + 128) - 128 * at .k) (128 * at .k) (omega arith) refl (at .inv .1) (c .compress .ensures),
@@ -59,7 +62,7 @@ loop-again c =
 
 returns : tie.Need-returns Inv-loop μ-loop
 returns c =
-    let p = c .before .before .before .before .before .args in
+    let p = c .before .before .before .before .before .before .before .args in
     let all : c .before .loop .k ≡ length (p .bytes .now) / 128 = omega arith in
     c .before .loop .inv .1 ∙ ap (absorbed large (p .state .now) (p .bytes .now)) all
 
@@ -69,7 +72,8 @@ absorb-large-spec =
     (tie.spec
     Inv-loop
     μ-loop
-    roots-requires
+    slice-aggregate-fill-roots
+    fill-roots-requires
     added-large-requires
     loop-holds
     mul-from

@@ -6,8 +6,11 @@ use borrow.Author.Needs.{needs}
 use Rattle.compression.proofs.finish_large.Statement.{statement}
 use Rattle.compression.proofs.finish_large.Tie as tie
 
-roots-requires : tie.Need-roots-requires
-roots-requires c κs = search needs
+slice-aggregate-fill-roots : tie.Need-slice-aggregate-fill-roots
+slice-aggregate-fill-roots c = search needs
+
+fill-roots-requires : tie.Need-fill-roots-requires
+fill-roots-requires c κs = search needs
 
 added-large-requires : tie.Need-added-large-requires
 added-large-requires c κs = search needs
@@ -22,13 +25,14 @@ compress-requires : tie.Need-compress-requires
 compress-requires c κs = search needs
 
 returns : tie.Need-returns
-returns c = c .compress .ensures ∙ ap (compression large true (c .before .before .before .before .before .before .before .before .before .args .state .now)) (c .before .before .before .before .before .before .length-large .ensures)
+returns c = c .compress .ensures ∙ ap (compression large true (c .before .before .before .before .before .before .before .before .before .before .before .args .state .now)) (c .before .before .before .before .before .before .length-large .ensures)
 
 pub finish-large-spec : {M : Type 1} → statement M
 finish-large-spec =
     tie.close
     (tie.spec
-    roots-requires
+    slice-aggregate-fill-roots
+    fill-roots-requires
     added-large-requires
     length-large-requires
     slice-aggregate-compress

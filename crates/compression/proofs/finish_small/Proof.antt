@@ -6,8 +6,11 @@ use borrow.Author.Needs.{needs}
 use Rattle.compression.proofs.finish_small.Statement.{statement}
 use Rattle.compression.proofs.finish_small.Tie as tie
 
-roots-requires : tie.Need-roots-requires
-roots-requires c κs = search needs
+slice-aggregate-fill-roots : tie.Need-slice-aggregate-fill-roots
+slice-aggregate-fill-roots c = search needs
+
+fill-roots-requires : tie.Need-fill-roots-requires
+fill-roots-requires c κs = search needs
 
 added-small-requires : tie.Need-added-small-requires
 added-small-requires c κs = search needs
@@ -22,13 +25,14 @@ compress-requires : tie.Need-compress-requires
 compress-requires c κs = search needs
 
 returns : tie.Need-returns
-returns c = c .compress .ensures ∙ ap (compression small true (c .before .before .before .before .before .before .before .before .before .args .state .now)) (c .before .before .before .before .before .before .length-small .ensures)
+returns c = c .compress .ensures ∙ ap (compression small true (c .before .before .before .before .before .before .before .before .before .before .before .args .state .now)) (c .before .before .before .before .before .before .length-small .ensures)
 
 pub finish-small-spec : {M : Type 1} → statement M
 finish-small-spec =
     tie.close
     (tie.spec
-    roots-requires
+    slice-aggregate-fill-roots
+    fill-roots-requires
     added-small-requires
     length-small-requires
     slice-aggregate-compress

@@ -49,7 +49,7 @@ write-form-requires c κs =
     let s = c .before .before .before .before .before .before .before .before .before in
     let facts = store-facts (s .args .self) (s .args .out .now) (c .before .before .before .before .before .before .store-refusal .result) (c .before .before .before .before .before .before .store-refusal .ensures) (c .before .before .before .before .before .if1 .left) in
     let size = c .before .before .block-bytes in
-    (omega (arith, length-take (6 + 2 * size .result - 0) (s .args .out .now), facts .1, size .ensures), omega (arith, size .ensures, bytes-within (familyOf (s .args .self .width))), search needs)
+    (omega (arith, length-take (6 + 2 * size .result - 0) (s .args .out .now), facts .1, size .ensures), omega (arith, size .ensures, bytes-within (familyOf (s .args .self .width))), search needs, omega (arith, size .ensures))
 
 same-length-2 : tie.Need-same-length-2
 same-length-2 c = search needs

@@ -4,7 +4,7 @@ use lib.ListN.{length-take}
 use Rattle.hash.specs.Open.{family}
 use Rattle.tail.proofs.Sizes.{words-within}
 use Rattle.hash.proofs.Holding.{legal-width, legal-tail}
-use Rattle.hash.proofs.Digests.{digest-room}
+use Rattle.hash.proofs.Digests.{digest-room, digest-words}
 use Rattle.hash.proofs.Answers.{take-refused, take-facts, take-answered}
 use borrow.Author.Needs.{needs}
 use Rattle.hash.proofs.Hash.take.Statement.{statement}
@@ -49,7 +49,8 @@ write-words-requires : tie.Need-write-words-requires
 write-words-requires c κs =
     let s = c .before .before .before .before .before .before .before .before .before .before in
     let facts = take-facts (s .args .self) (s .args .out .now) (c .before .before .before .before .before .before .before .take-refusal .result) (c .before .before .before .before .before .before .before .take-refusal .ensures) (c .before .before .before .before .before .before .if1 .left) in
-    omega (arith, length-take (s .args .self .width / 8 - 0) (s .args .out .now), digest-room (s .args .self .width) (legal-width (s .args .self) (facts .0)), words-within (family (s .args .self)))
+    let known = legal-width (s .args .self) (facts .0) in
+    omega (arith, facts .1, length-take (s .args .self .width / 8 - 0) (s .args .out .now), digest-room (s .args .self .width) known, digest-words (s .args .self .width) known, words-within (family (s .args .self)))
 
 same-length-2 : tie.Need-same-length-2
 same-length-2 c = search needs
