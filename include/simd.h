@@ -89,7 +89,7 @@ extern "C" {
    An open hash is held by the caller as its stored form, SIMD_FORM(width)
    bytes: the width (2 bytes, little endian), the bit length so far (4 bytes,
    little endian), the state after all full blocks (words little endian, in the
-   order A0, A1, .., B0, .., D7), then one block with the bits that fill no
+   order A0, A1, .., B0, .., D3 or D7), then one block with the bits that fill no
    block yet and zeros after them.  To store a hash is to keep these bytes.
    A form with a state that no message reaches is accepted, and what follows is
    worked out from that state.

@@ -1,6 +1,6 @@
 // The open hash: opened at a width, fed pieces of any number of bits, taken, stored and restored. Each method hands the hash back with its
 // answer. `refusal` is 0 where nothing is refused, and otherwise the number of what was; then the hash comes back as it was handed over,
-// no buffer is written to, and the rest of the answer is 0.
+// or all zeros where none was (open, restore), no buffer is written to, and the rest of the answer is 0.
 
 ghost use mathlib.Core.Path.{_≡_};
 ghost use mathlib.Core.List.{[]};

@@ -68,7 +68,7 @@ no-blocks : (h : Hash) → fullBlocks h 0 ≡ 0
 unfolding fullBlocks
 no-blocks h = none-full (family h) (h .bits)
 
--- Feeding pieces one after the other is feeding their bits joined, from any hash whatever.
+-- Feeding pieces one after the other is feeding their bits joined, from any legal hash, whether or not a message reaches it.
 pub feed-all : (h : Hash) → Sized h → legal h ≡ true → (ps : List Piece) → Wholes ps → h .bits + length (joined ps) ≤ limit
     → feedAll h ps ≡ record { hash = advanced h (joined ps); blocks = fullBlocks h (length (joined ps)); refusal = 0 }
 unfolding feedAll joined

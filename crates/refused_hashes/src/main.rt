@@ -1,4 +1,4 @@
-// Open hashes that no call hands out, and those next to them that one might: what feeding, taking and storing each of them answers.
+// Open hashes that are none, and those next to them that are: what feeding, taking and storing each of them answers.
 use hash::Hash;
 use libc::STDOUT_FILENO;
 

@@ -1,4 +1,5 @@
-// The door for C: each call is total, returns the refusal's number or 0, and on a refusal leaves all that it was lent as it was.
+// The door for C: each call is total, returns the refusal's number or 0, and on a refusal leaves all that it was lent as it was;
+// a tape keeps the digests before the refused command, and its count and place are told.
 // include/simd.h is its manual. The hash travels as its stored form.
 ghost use mathlib.Core.Path.{_≡_};
 ghost use lib.ListN.{length};

@@ -1,5 +1,5 @@
-// The constant tables that several floors read: order P, rotations and row exchanges (sections 1.2.2 and 1.2.3). A caller takes a table once,
-// outside its loops: a constant array is built anew wherever it is named.
+// The constant tables that several floors read: order P, rotations and row exchanges (sections 1.2.2 and 1.2.3). A constant
+// array is built anew wherever it is named: a loop takes its table once, outside; where every index is a literal the table folds away.
 ghost use mathlib.Core.Path.{_≡_};
 ghost use Rattle.simd.specs.Constants.{order as orderP, rotations as quadruples, smallExchanges, largeExchanges};
 
