@@ -105,11 +105,15 @@ getD-bitsOf (b ∷ bytes) (suc j) r below =
     let place : 8 * suc j + r ≡ length first + (8 * j + r) = omega (arith, length-table 8 (λ t. b / 2 ^ (7 - t) % 2)) in
     ap (λ (n : ℕ). getD (first ++ bitsOf bytes) n 0) place ∙ getD-append-add first (bitsOf bytes) (8 * j + r) 0 ∙ getD-bitsOf bytes j r below
 
+-- Bit i of a byte string.
+pub bit-at : (bytes : List ℕ) (i : ℕ) → getD (bitsOf bytes) i 0 ≡ getD bytes (i / 8) 0 / 2 ^ (7 - i % 8) % 2
+bit-at bytes i =
+    let place : i ≡ 8 * (i / 8) + i % 8 = omega arith in
+    ap (λ (k : ℕ). getD (bitsOf bytes) k 0) place ∙ getD-bitsOf bytes (i / 8) (i % 8) (omega arith)
+
 pub bits-bitsOf : (bytes : List ℕ) → Bits (bitsOf bytes)
 bits-bitsOf bytes i =
-    let place : 8 * (i / 8) + i % 8 ≡ i = omega arith in
-    let bit = rw place at (getD-bitsOf bytes (i / 8) (i % 8) (omega arith)) in
-    rw bit (mod-lt (getD bytes (i / 8) 0 / 2 ^ (7 - i % 8)) (lit< tt))
+    rw (bit-at bytes i) (mod-lt (getD bytes (i / 8) 0 / 2 ^ (7 - i % 8)) (lit< tt))
 
 pub getD-take-past : (n : ℕ) (m : List ℕ) (i : ℕ) → n ≤ i → getD (take n m) i 0 ≡ 0
 getD-take-past n m i past = List·getD-eq-default (take n m) 0 {n = i} (omega (arith, length-take n m))

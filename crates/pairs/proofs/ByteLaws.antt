@@ -9,11 +9,11 @@ use lib.Seq.{getD-take}
 use Rattle.simd.specs.Basic.{Family, small, large, blockBytes, table}
 use Rattle.simd.specs.Message.{bitsOf, message, block, messageBlocks}
 use Rattle.simd.specs.Hash.{chain}
-use Rattle.laws.proofs.Bits.{length-bitsOf, bits-bitsOf, bits-take, getD-take-past, byte-ext, byte-bitsOf}
+use Rattle.laws.proofs.Bits.{length-bitsOf, bit-at, bits-bitsOf, bits-take, getD-take-past, byte-ext, byte-bitsOf}
 use Rattle.laws.proofs.Chain.{chain-ext}
 use Rattle.laws.proofs.Table.{table-ext}
 use Rattle.pairs.proofs.MessageLaws.{IsMessage}
-use Rattle.pairs.proofs.RefusalLaws.{used, Accepted, bit-at}
+use Rattle.pairs.proofs.RefusalLaws.{used, Accepted}
 
 module _ (bytes : List ℕ) (count : ℕ) (w : Accepted bytes count) where
   pub length-message : length (message bytes count) ≡ count

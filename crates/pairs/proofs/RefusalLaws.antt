@@ -8,7 +8,6 @@ use borrow.Author.Tests.{leb-true}
 use lib.Dec.{leb}
 use lib.ListN.{length, getD, take}
 use Rattle.simd.specs.Message.{bitsOf}
-use Rattle.laws.proofs.Bits.{getD-bitsOf}
 use Rattle.tail.specs.Zero.{clear}
 use Rattle.tail.proofs.Zeros.{clear-at}
 use Rattle.hash.specs.Open.{limit, pieceRefusal}
@@ -16,12 +15,6 @@ use Rattle.hash.specs.Open.{limit, pieceRefusal}
 -- The number of bytes that a count of bits uses.
 abbrev pub used : ℕ → ℕ
 used count = (count + 7) / 8
-
--- Bit i of a byte string.
-pub bit-at : (bytes : List ℕ) (i : ℕ) → getD (bitsOf bytes) i 0 ≡ getD bytes (i / 8) 0 / 2 ^ (7 - i % 8) % 2
-bit-at bytes i =
-    let whole : i ≡ 8 * (i / 8) + i % 8 = omega arith in
-    ap (λ (j : ℕ). getD (bitsOf bytes) j 0) whole ∙ getD-bitsOf bytes (i / 8) (i % 8) (omega arith)
 
 -- A message that breaks no rule.
 pub record Accepted (bytes : List ℕ) (count : ℕ) : Type 0 where

@@ -1,4 +1,4 @@
-// Tests on pairs of state and block, and the bytes of a block: shared by both families.
+// What the comparisons of both families share: their answer, tests on pairs of state and block, and the bytes of a block.
 ghost use mathlib.Core.List.{_++_};
 ghost use mathlib.Core.Path.{_≡_};
 ghost use Prim.Native.Nat.{_+_, _/_, _≤_, min};

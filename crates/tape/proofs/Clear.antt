@@ -8,16 +8,10 @@ use native.Mathlib.Decide.{decLt}
 use lib.ListN.{length, getD, take, length-take, List·getD-eq-default}
 use lib.Seq.{getD-take, take-all}
 use Rattle.simd.specs.Message.{bitsOf, message}
-use Rattle.laws.proofs.Bits.{length-bitsOf, getD-bitsOf}
+use Rattle.laws.proofs.Bits.{length-bitsOf, bit-at}
 use Rattle.tail.specs.Zero.{clear}
 use Rattle.tail.proofs.Zeros.{clear-at, clear-of}
 use Rattle.hash.proofs.Feeding.{Whole}
-
--- Bit i of a byte string.
-bit-at : (bytes : List ℕ) (i : ℕ) → getD (bitsOf bytes) i 0 ≡ getD bytes (i / 8) 0 / 2 ^ (7 - i % 8) % 2
-bit-at bytes i =
-    let place : i ≡ 8 * (i / 8) + i % 8 = omega arith in
-    ap (λ (k : ℕ). getD (bitsOf bytes) k 0) place ∙ getD-bitsOf bytes (i / 8) (i % 8) (omega arith)
 
 bit-past : (bytes : List ℕ) (i : ℕ) → length bytes ≤ i / 8 → getD (bitsOf bytes) i 0 ≡ 0
 bit-past bytes i past = List·getD-eq-default (bitsOf bytes) 0 {n = i} (omega (arith, length-bitsOf bytes))
