@@ -1,21 +1,18 @@
 -- The compression from its parts: columns of a state, its words, and 36 steps as 32 and 4.
-use mathlib.Core.Bool.{Bool, false}
+use mathlib.Core.Bool.{Bool}
 use mathlib.Core.List.{List, [], _∷_, _++_}
 use mathlib.Core.Path.{_≡_, refl, sym, ap, _∙_, subst}
-use Prim.Native.Nat.{ℕ, zero, suc, _+_, _*_, _/_, _%_, _^_, _<_, _≤_}
+use Prim.Native.Nat.{ℕ, zero, suc, _+_, _*_, _/_, _%_, _<_, _≤_}
 use native.Mathlib.Omega.{arith}
-use native.Mathlib.Nat.{div-div-eq-div-mul, pow-suc}
-use native.Mathlib.Numerals.{add-one}
 use lib.Bits.{bitXor}
 use lib.ListN.{length, getD, take, drop, length-take, length-drop, List·getD-append}
 use lib.Seq.{getD-take, getD-drop, getD-append-add}
-use Rattle.simd.specs.Basic.{Family, small, large, rows, stateWords, blockBytes, table, wordAt, wordsOf}
+use Rattle.simd.specs.Basic.{Family, small, large, rows, stateWords, table, wordAt, wordsOf}
 use Rattle.simd.specs.Expansion.{expanded}
 use Rattle.simd.specs.Steps.{State, words, state, step, steps, mixed, compression}
 use Rattle.laws.proofs.Table.{length-table, getD-table, table-of, table-ext}
 use Rattle.words.specs.Columns.{columns, fromColumns}
 use Rattle.words.specs.Runs.{lastSteps}
-use Rattle.compression.specs.Absorbed.{absorbed}
 use Rattle.compression.specs.Flat.{flat}
 
 -- A part of a list by its elements.
@@ -110,14 +107,3 @@ pub mixed-words : (f : Family) (old bytes : List ℕ) → table (stateWords f) (
 unfolding mixed wordsOf
 mixed-words f old bytes =
     table-ext (stateWords f) _ _ (λ i below. ap (bitXor (getD old i 0)) (sym (getD-table (stateWords f) (wordAt bytes) i 0 below)))
-
--- What is left of a number after one byte more.
-pub shorter : (n j : ℕ) → n / 256 ^ j / 256 ≡ n / 256 ^ (j + 1)
-shorter n j = div-div-eq-div-mul n (256 ^ j) 256 ∙ ap (λ m. n / m) (sym (pow-suc 256 j)) ∙ ap (λ k. n / 256 ^ k) (sym (add-one j))
-
--- One block more.
-pub absorbed-more : (f : Family) (from bytes : List ℕ) (k n at : ℕ) {s t : List ℕ} → n ≡ blockBytes f → at ≡ blockBytes f * k →
-    s ≡ absorbed f from bytes k → t ≡ compression f false s (take n (drop at bytes)) → t ≡ absorbed f from bytes (k + 1)
-unfolding absorbed
-absorbed-more f from bytes k n at n-is at-is s-is t-is =
-    t-is ∙ (λ i. compression f false (s-is i) (take (n-is i) (drop (at-is i) bytes))) ∙ ap (absorbed f from bytes) (sym (add-one k))

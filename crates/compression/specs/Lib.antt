@@ -1,3 +1,2 @@
 -- What the contracts of the compression cite besides the definition of SIMD.
-pub mod Absorbed
 pub mod Flat

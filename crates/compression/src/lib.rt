@@ -1,77 +1,10 @@
 // The compression of both families and the starting states. A state is its words in the published order.
-ghost use mathlib.Core.Bool.{true};
 ghost use mathlib.Core.Path.{_≡_};
-ghost use Prim.Native.Nat.{_/_};
-ghost use lib.ListN.{length};
-ghost use Rattle.simd.specs.Basic.{small as smallFamily, large as largeFamily};
 ghost use Rattle.simd.specs.Constants.{start224, start256, start384, start512};
-ghost use Rattle.simd.specs.Message.{lengthBlock};
-ghost use Rattle.simd.specs.Steps.{compression};
-ghost use Rattle.compression.specs.Absorbed.{absorbed};
 
 pub mod block;
 pub mod large;
 pub mod small;
-
-// Compresses every whole block of a byte string, as message blocks. What is left is not read.
-pub fn absorb_small(state: &mut [u32; 16], bytes: &[u8])
-    ensures { λ _. ⌜ now (state .exit) ≡ absorbed smallFamily (now (state .entry)) (now (bytes .entry)) (length (now (bytes .entry)) / 64) ⌝ }
-{
-    let mut roots = [0u16; 512];
-    transform_tables::fill_roots(&mut roots);
-    let mut trail = [[0u32; 4]; 36];
-    let added = transform_tables::added_small(false);
-    let blocks = bytes.len() / 64;
-    let mut k = 0;
-    while k < blocks {
-        let from = 64 * k;
-        let to = from + 64;
-        small::compress(state, &bytes[from..to], &roots, &added, false, &mut trail);
-        k += 1;
-    }
-}
-
-// Compresses every whole block of a byte string, as message blocks. What is left is not read.
-pub fn absorb_large(state: &mut [u32; 32], bytes: &[u8])
-    ensures { λ _. ⌜ now (state .exit) ≡ absorbed largeFamily (now (state .entry)) (now (bytes .entry)) (length (now (bytes .entry)) / 128) ⌝ }
-{
-    let mut roots = [0u16; 512];
-    transform_tables::fill_roots(&mut roots);
-    let mut trail = [[0u32; 8]; 36];
-    let added = transform_tables::added_large(false);
-    let blocks = bytes.len() / 128;
-    let mut k = 0;
-    while k < blocks {
-        let from = 128 * k;
-        let to = from + 128;
-        large::compress(state, &bytes[from..to], &roots, &added, false, &mut trail);
-        k += 1;
-    }
-}
-
-// Compresses the length block of so many bits.
-pub fn finish_small(state: &mut [u32; 16], bits: u64)
-    ensures { λ _. ⌜ now (state .exit) ≡ compression smallFamily true (now (state .entry)) (lengthBlock smallFamily bits) ⌝ }
-{
-    let mut roots = [0u16; 512];
-    transform_tables::fill_roots(&mut roots);
-    let mut trail = [[0u32; 4]; 36];
-    let added = transform_tables::added_small(true);
-    let last = block::length_small(bits);
-    small::compress(state, &last, &roots, &added, true, &mut trail);
-}
-
-// Compresses the length block of so many bits.
-pub fn finish_large(state: &mut [u32; 32], bits: u64)
-    ensures { λ _. ⌜ now (state .exit) ≡ compression largeFamily true (now (state .entry)) (lengthBlock largeFamily bits) ⌝ }
-{
-    let mut roots = [0u16; 512];
-    transform_tables::fill_roots(&mut roots);
-    let mut trail = [[0u32; 8]; 36];
-    let added = transform_tables::added_large(true);
-    let last = block::length_large(bits);
-    large::compress(state, &last, &roots, &added, true, &mut trail);
-}
 
 const START_224: [u32; 16] = [
     0x33586e9f,

@@ -9,13 +9,12 @@ use borrow.Author.Tests.{leb-true}
 use borrow.Rule.Slice.PartMut.{postOf}
 use lib.Dec.{leb}
 use lib.ListN.{length, take, drop, length-take}
-use lib.Seq.{take-all, getD-take, ext-getD}
+use lib.Seq.{take-all}
 use Rattle.simd.specs.Basic.{Family, small, large, familyOf, isWidth, blockBytes, blockBits, stateWords, bytesOf, wordsOf, table}
 use Rattle.simd.specs.Constants.{start}
 use Rattle.simd.specs.Message.{bitsOf, byteOf, message, messageBlocks, lengthBlock}
 use Rattle.simd.specs.Steps.{compression}
 use Rattle.simd.specs.Hash.{chain, compressions}
-use Rattle.laws.proofs.Bits.{getD-bitsOf, length-bitsOf}
 use Rattle.laws.proofs.Chain.{length-compression}
 use Rattle.laws.proofs.LittleEndian.{length-bytesOf}
 use Rattle.tail.specs.Zero.{clear, padded}
@@ -29,8 +28,8 @@ use Rattle.tail.proofs.Zeros.{padded-take}
 use Rattle.tail.proofs.Sizes.{words-within}
 use Rattle.tail.proofs.Parts.{back}
 use Rattle.hash.proofs.Holding.{legal-width, legal-state, legal-tail, length-reached}
-use Rattle.hash.proofs.Feeding.{length-message}
-use Rattle.hash.proofs.Storing.{passed}
+use Rattle.hash.proofs.Feeding.{length-message, piece-bits}
+use Rattle.hash.proofs.Refusing.{passed, accepted}
 use Rattle.hash.proofs.Digests.{digest-room, digest-length}
 
 -- Refusals.
@@ -96,22 +95,11 @@ pub record Accepts (h : Hash) (piece : List ℕ) (count : ℕ) : Type 0 where
   pub short : h .bits + count ≤ limit
 
 pub feed-facts : (h : Hash) (piece : List ℕ) (count r : ℕ) → r ≡ feedRefusal h piece count → r ≡ 0 → Accepts h piece count
-unfolding feedRefusal pieceRefusal
+unfolding feedRefusal
 feed-facts h piece count r same none =
-    let e = sym same ∙ none in
-    let fits = leb count (8 * length piece) in
-    let clean = clear count (take ((count + 7) / 8) piece) in
-    let short = leb (h .bits + count) limit in
-    let first = passed (legal h) (cond fits (cond clean (cond short 0 4) 3) 2) 4 e in
-    let second = passed fits (cond clean (cond short 0 4) 3) 1 (first .1) in
-    let third = passed clean (cond short 0 4) 2 (second .1) in
-    let fourth = passed short 0 3 (third .1) in
-    record {
-      good = first .0;
-      within = leb-true count (8 * length piece) (second .0);
-      clean = third .0;
-      short = leb-true (h .bits + count) limit (fourth .0);
-    }
+    let first = passed (legal h) (pieceRefusal (h .bits) piece count) 4 (sym same ∙ none) in
+    let piece-is = accepted (h .bits) piece count (first .1) in
+    record { good = first .0; within = piece-is .within; clean = piece-is .clean; short = piece-is .short }
 
 used-below : (f : Family) (n : ℕ) → n % blockBits f < blockBits f
 used-below small n = omega arith
@@ -135,26 +123,6 @@ module _ (h : Hash) (piece : List ℕ) (count : ℕ) (a : Accepts h piece count)
         short = omega (arith, a .short);
       }
 
-  -- The bits of the bytes used are the piece's.
-  piece-bits : take count (bitsOf (take ((count + 7) / 8 - 0) piece)) ≡ message piece count
-  unfolding message
-  piece-bits =
-      let n = (count + 7) / 8 - 0 in
-      let few = length-bitsOf (take n piece) in
-      let all = length-bitsOf piece in
-      let size : length (take count (bitsOf (take n piece))) ≡ length (take count (bitsOf piece)) =
-      omega (arith, a .within, length-take count (bitsOf (take n piece)), length-take count (bitsOf piece), few, all, length-take n piece) in
-      ext-getD 0 (take count (bitsOf (take n piece))) (take count (bitsOf piece)) size
-      (λ i below.
-      let inside : i < count = omega (arith, length-take count (bitsOf (take n piece))) in
-      let place : 8 * (i / 8) + i % 8 ≡ i = omega arith in
-      let left = rw place at (getD-bitsOf (take n piece) (i / 8) (i % 8) (omega arith)) in
-      let right = rw place at (getD-bitsOf piece (i / 8) (i % 8) (omega arith)) in
-      let byte = getD-take n piece (i / 8) 0 (omega arith) in
-      getD-take count (bitsOf (take n piece)) i 0 inside
-      ∙ left ∙ ap (λ (b : ℕ). b / 2 ^ (7 - i % 8) % 2) byte ∙ sym right
-      ∙ sym (getD-take count (bitsOf piece) i 0 inside))
-
   pub feed-answered : (n r : ℕ) → n ≡ used h → r ≡ feedRefusal h piece count → r ≡ 0 → (state′ tail′ : List ℕ) (blocks : ℕ)
       → state′ ≡ padded 32 (chain (family h) (take (stateWords (family h)) (h .state)) (joinedBits n (h .tail) (take ((count + 7) / 8 - 0) piece) count) ((n + count) / blockBits (family h)))
       → tail′ ≡ table 128 (byteOf (drop (blockBits (family h) * ((n + count) / blockBits (family h))) (joinedBits n (h .tail) (take ((count + 7) / 8 - 0) piece) count)))
@@ -165,7 +133,7 @@ module _ (h : Hash) (piece : List ℕ) (count : ℕ) (a : Accepts h piece count)
       let f = family h in
       let size = length-message piece count (a .within) in
       let joined : joinedBits n (h .tail) (take ((count + 7) / 8 - 0) piece) count ≡ pending h ++ message piece count =
-      λ i. take (same i) (bitsOf (h .tail)) ++ piece-bits i in
+      λ i. take (same i) (bitsOf (h .tail)) ++ piece-bits piece count (a .within) i in
       let full : (n + count) / blockBits f ≡ (used h + length (message piece count)) / blockBits f = λ i. (same i + sym size i) / blockBits f in
       let total : h .bits + count ≡ h .bits + length (message piece count) = ap (λ (m : ℕ). h .bits + m) (sym size) in
       let state = stated ∙ λ i. padded 32 (chain f (reached h) (joined i) (full i)) in
@@ -185,7 +153,7 @@ take-facts h out r same none =
     (first .0, leb-true (h .width / 8) (length out) (passed room 0 5 (first .1) .0))
 
 -- A front of n bytes written into a buffer.
-front-written : (n : ℕ) (bytes out : List ℕ) → length bytes ≡ n → bytes ++ postOf 0 (n - 0) out ≡ written 0 bytes out
+pub front-written : (n : ℕ) (bytes out : List ℕ) → length bytes ≡ n → bytes ++ postOf 0 (n - 0) out ≡ written 0 bytes out
 unfolding written
 front-written n bytes out size = ap (λ (k : ℕ). bytes ++ drop k out) (sub-zero n ∙ sym size)
 

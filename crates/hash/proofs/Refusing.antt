@@ -1,17 +1,17 @@
 -- Laws of refusals: one for each way out of a check.
-use mathlib.Core.Bool.{true, false, cond}
-use mathlib.Core.List.{List}
-use mathlib.Core.Path.{_≡_}
-use Prim.Native.Nat.{ℕ, _+_, _*_, _-_, _/_, _%_, _<_, _≤_}
+use mathlib.Core.Bool.{Bool, true, false, cond}
+use mathlib.Core.List.{List, _++_}
+use mathlib.Core.Path.{_≡_, refl, ap}
+use Prim.Native.Nat.{ℕ, zero, suc, _+_, _*_, _-_, _/_, _%_, _<_, _≤_}
 use native.Mathlib.Omega.{arith}
-use borrow.Author.Tests.{le-leb, lt-leb, eq-eqb, ne-eqb}
+use borrow.Author.Tests.{leb-true, le-leb, lt-leb, eq-eqb, ne-eqb}
 use lib.Dec.{leb}
 use lib.ListN.{length, take, drop}
 use Rattle.simd.specs.Basic.{Family, familyOf, isWidth, blockBytes, blockBits, stateWords}
 use Rattle.tail.specs.Zero.{allZero, clear}
 use Rattle.tail.proofs.Parts.{back}
 use Rattle.form.specs.Numbers.{formWidth, formBits}
-use Rattle.hash.specs.Open.{limit, family, used, legal, pieceRefusal, feedRefusal, takeRefusal}
+use Rattle.hash.specs.Open.{limit, family, used, legal, pieceRefusal, feedRefusal, takeRefusal, written, first}
 use Rattle.hash.specs.Form.{formBytes, storeRefusal, restoreRefusal}
 use Rattle.hash.specs.declared.Hash.{Hash}
 
@@ -103,3 +103,44 @@ module _ (form : List ℕ) where
       unfolding restoreRefusal
       form-decides middle used half left size =
           rw (back middle form, le-leb 2 (length form) long, ← same, known, eq-eqb (length form) (formBytes (familyOf width)) size, half, left)
+
+-- A first refusal hides a second one, and a refusal leaves the buffer that was lent.
+pub first-refused : (r s : ℕ) → (r ≡ 0 → ⊥) → first r s ≡ r
+unfolding first
+first-refused zero s some = absurd (some refl)
+first-refused (suc n) s some = refl
+
+pub first-accepted : (r s : ℕ) → r ≡ 0 → first r s ≡ s
+unfolding first
+first-accepted r s none = ap (λ n. first n s) none
+
+pub written-refused : (r : ℕ) (bytes out : List ℕ) → (r ≡ 0 → ⊥) → written r bytes out ≡ out
+unfolding written
+written-refused zero bytes out some = absurd (some refl)
+written-refused (suc n) bytes out some = refl
+
+pub written-accepted : (r : ℕ) (bytes out : List ℕ) → r ≡ 0 → written r bytes out ≡ bytes ++ drop (length bytes) out
+unfolding written
+written-accepted r bytes out none = ap (λ n. written n bytes out) none
+
+-- What is not refused has passed each test.
+pub passed : (test : Bool) (x n : ℕ) → cond test x (suc n) ≡ 0 → (test ≡ true) × (x ≡ 0)
+passed true x n e = (refl, e)
+passed false x n e = absurd (omega arith)
+
+pub record Accepted (n : ℕ) (piece : List ℕ) (count : ℕ) : Type 0 where
+  pub within : count ≤ 8 * length piece
+  pub clean : clear count (take ((count + 7) / 8) piece) ≡ true
+  pub short : n + count ≤ limit
+
+pub accepted : (n : ℕ) (piece : List ℕ) (count : ℕ) → pieceRefusal n piece count ≡ 0 → Accepted n piece count
+unfolding pieceRefusal
+accepted n piece count none =
+    let counted = passed (leb count (8 * length piece)) _ 1 none in
+    let cleared = passed (clear count (take ((count + 7) / 8) piece)) _ 2 (counted .1) in
+    let total = passed (leb (n + count) limit) 0 3 (cleared .1) in
+    record {
+      within = leb-true count (8 * length piece) (counted .0);
+      clean = cleared .0;
+      short = leb-true (n + count) limit (total .0);
+    }

@@ -20,6 +20,7 @@ use Rattle.hash.specs.Form.{formBytes, formOf, formFamily, hashOf, resto
 use Rattle.hash.specs.declared.Hash.{Hash}
 use Rattle.tail.proofs.Zeros.{clear-at, clear-of, take-padded, padded-past, padded-take, getD-padded, length-padded}
 use Rattle.tail.proofs.Sizes.{words-within, bytes-within, bytes-past, block-within}
+use Rattle.hash.proofs.Refusing.{passed}
 use Rattle.hash.proofs.Holding.{Value, length-reached, legal-width, legal-state, legal-tail}
 
 -- Byte strings with the same bytes, and zeros after them, are clear from the same places on.
@@ -150,10 +151,6 @@ pub record Accepted (form : List ℕ) : Type 0 where
   pub known : isWidth (formWidth form) ≡ true
   pub size : length form ≡ formBytes (formFamily form)
   pub clean : clear (formBits form % blockBits (formFamily form)) (drop (6 + blockBytes (formFamily form)) form) ≡ true
-
-pub passed : (test : Bool) (x n : ℕ) → cond test x (suc n) ≡ 0 → (test ≡ true) × (x ≡ 0)
-passed true x n e = (refl, e)
-passed false x n e = absurd (omega arith)
 
 pub form-facts : (form : List ℕ) → restoreRefusal form ≡ 0 → Accepted form
 unfolding restoreRefusal

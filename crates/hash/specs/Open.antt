@@ -108,3 +108,8 @@ takeAnswer h out = taken (takeRefusal h out) h
 unfoldable pub written : ℕ → List ℕ → List ℕ → List ℕ
 written zero bytes out = bytes ++ drop (length bytes) out
 written (suc r) bytes out = out
+
+-- The first of two refusals that is no 0.
+unfoldable pub first : ℕ → ℕ → ℕ
+first zero r = r
+first (suc n) r = suc n

@@ -159,7 +159,7 @@ fn no_tail() -> [u8; 128]
 }
 
 // The starting state of a width.
-fn start_state(width: u16) -> [u32; 32]
+pub fn start_state(width: u16) -> [u32; 32]
     ensures { λ r. ⌜ r ≡ padded 32 (start width) ⌝ }
 {
     if width == 224 {

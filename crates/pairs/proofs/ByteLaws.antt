@@ -1,15 +1,15 @@
--- Laws of the message that a byte string and a count of bits stand for, and of the blocks of a byte string.
+-- Laws of the message that a byte string and a count of bits stand for, and of its blocks.
 use mathlib.Core.List.{List}
 use mathlib.Core.Path.{_≡_, sym, ap, _∙_}
-use Prim.Native.Nat.{ℕ, _+_, _*_, _-_, _/_, _%_, _^_, _<_}
+use Prim.Native.Nat.{ℕ, _+_, _*_, _-_, _/_, _%_, _^_}
 use native.Mathlib.Decide.{decLt}
 use native.Mathlib.Omega.{arith}
 use lib.ListN.{length, getD, take, length-take}
 use lib.Seq.{getD-take}
-use Rattle.simd.specs.Basic.{Family, small, large, blockBytes, table}
+use Rattle.simd.specs.Basic.{Family, small, large, blockBytes}
 use Rattle.simd.specs.Message.{bitsOf, message, block, messageBlocks}
 use Rattle.simd.specs.Hash.{chain}
-use Rattle.laws.proofs.Bits.{length-bitsOf, bit-at, bits-bitsOf, bits-take, getD-take-past, byte-ext, byte-bitsOf}
+use Rattle.laws.proofs.Bits.{length-bitsOf, bit-at, bits-bitsOf, bits-take, getD-take-past, byte-ext}
 use Rattle.laws.proofs.Chain.{chain-ext}
 use Rattle.laws.proofs.Table.{table-ext}
 use Rattle.pairs.proofs.MessageLaws.{IsMessage}
@@ -50,10 +50,3 @@ module _ (m n : List ℕ) (same : (i : ℕ) → getD m i 0 ≡ getD n i 0) where
 
   pub same-chain : (f : Family) (from : List ℕ) (k : ℕ) → chain f from m k ≡ chain f from n k
   same-chain f from k = chain-ext f from m n k (λ j _. byte-ext m n j j (λ t _. same (8 * j + t)))
-
--- A block of a byte string: its bytes, with zeros past the end.
-pub block-of-bytes : (f : Family) (bytes : List ℕ) (k : ℕ) → ((j : ℕ) → getD bytes j 0 < 256)
-    → block f (bitsOf bytes) k ≡ table (blockBytes f) (λ j. getD bytes (blockBytes f * k + j) 0)
-unfolding block
-block-of-bytes f bytes k are-bytes =
-    table-ext (blockBytes f) _ _ (λ j _. byte-bitsOf bytes (blockBytes f * k + j) (are-bytes (blockBytes f * k + j)))

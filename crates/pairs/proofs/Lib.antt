@@ -4,6 +4,5 @@ pub mod RefusalLaws
 pub mod ByteLaws
 pub mod PairLaws
 pub mod FoundLaws
-pub mod BlockLaws
 pub mod LockstepLaws
 pub mod AnswerLaws

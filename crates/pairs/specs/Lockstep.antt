@@ -2,27 +2,16 @@
 use mathlib.Core.Bool.{Bool, false, true, cond, _&&_}
 use mathlib.Core.List.{List}
 use mathlib.Core.Path.{_≡_}
-use Prim.Native.Nat.{ℕ, suc, _+_, _-_, _%_}
+use Prim.Native.Nat.{ℕ, suc, _+_, _-_}
 use lib.Dec.{eqb}
-use lib.ListN.{replicate}
-use Rattle.simd.specs.Basic.{Family, points, table}
-use Rattle.simd.specs.Expansion.{added as addedTo}
+use Rattle.simd.specs.Basic.{Family}
 use Rattle.simd.specs.Message.{bitsOf, block, lengthBlock}
 use Rattle.simd.specs.Hash.{chain}
 use Rattle.simd.specs.Steps.{compression}
-use Rattle.transform_tables.specs.Roots.{Roots}
 use Rattle.pairs.specs.Lists.{equal, least}
 use Rattle.pairs.specs.Pairs.{unlike}
 use Rattle.pairs.specs.declared.Verdict.{Verdict}
 use Rattle.pairs.specs.declared.Verdict.the-variants.{Same, Apart, Meet}
-
-unfoldable pub zeros : ℕ → List ℕ
-zeros n = replicate n 0
-
--- The tables that the compression of a message block is lent.
-pub record Tables (f : Family) (roots added : List ℕ) : Type 0 where
-  pub rooted : Roots roots
-  pub constant : added ≡ table (points f) (λ i. addedTo f false i % 257)
 
 -- A block compressed into each of two states: the new states, and whether the pairs differ.
 pub record Both (f : Family) (s x t y s′ t′ : List ℕ) (r : Bool) : Type 0 where

@@ -1,8 +1,7 @@
-// What the comparisons of both families share: their answer, tests on pairs of state and block, and the bytes of a block.
-ghost use mathlib.Core.List.{_++_};
+// What the comparisons of both families share: their answer, tests on pairs of state and block, and the bytes that a message uses.
 ghost use mathlib.Core.Path.{_≡_};
-ghost use Prim.Native.Nat.{_+_, _/_, _≤_, min};
-ghost use lib.ListN.{length, take, drop};
+ghost use Prim.Native.Nat.{_+_, _/_};
+ghost use lib.ListN.{length, take};
 ghost use Rattle.hash.specs.Open.{pieceRefusal};
 ghost use Rattle.pairs.specs.Lists.{equal};
 ghost use Rattle.pairs.specs.Pairs.{unlike as unlikePairs};
@@ -70,33 +69,6 @@ pub fn with_length(s: &[u32], m: u64, t: &[u32], n: u64, met: usize) -> usize
         }
     }
     0
-}
-
-pub fn smaller(x: usize, y: usize) -> usize
-    ensures { λ r. ⌜ r ≡ min x y ⌝ }
-{
-    if x < y { x } else { y }
-}
-
-// Copies bytes to the front of a block.
-pub fn copy(bytes: &[u8], block: &mut [u8])
-    requires { ⌜ length (now bytes) ≤ length (now block) ⌝ }
-    ensures { λ _. ⌜ now (block .exit) ≡ now (bytes .entry) ++ drop (length (now (bytes .entry))) (now (block .entry)) ⌝ }
-{
-    let mut i = 0;
-    while i < bytes.len() {
-        block[i] = bytes[i];
-        i += 1;
-    }
-}
-
-// So many bytes from a place on.
-pub fn part(bytes: &[u8], at: usize, size: usize) -> &[u8]
-    requires { ⌜ at + size ≤ length (now bytes) ⌝ }
-    ensures { λ r. ⌜ (now r ≡ take size (drop at (now (bytes .entry)))) × (length (now r) ≡ size) ⌝ }
-{
-    let end = at + size;
-    &bytes[at..end]
 }
 
 // The bytes that a message uses.

@@ -1,25 +1,16 @@
 -- What the calls that hold a stored form answer, from what the methods of the hash answer in turn.
-use mathlib.Core.Bool.{Bool, true, false, cond}
 use mathlib.Core.List.{List}
 use mathlib.Core.Path.{_≡_, refl, sym, ap, _∙_}
-use Prim.Native.Nat.{ℕ, zero, suc, _/_}
-use native.Mathlib.Decide.{ℕ-discrete}
-use borrow.Author.Tests.{leb-true}
-use lib.Dec.{leb}
-use lib.ListN.{length}
-use Rattle.simd.specs.Basic.{isWidth}
-use Rattle.simd.specs.Message.{message}
-use Rattle.simd.specs.Hash.{digest}
-use Rattle.hash.specs.Open.{openAnswer, pieceRefusal, feedAnswer, takeAnswer, takeRefusal, taken, digestOf, written}
+use Prim.Native.Nat.{ℕ, zero, suc}
+use Rattle.hash.specs.Open.{first, openAnswer, feedAnswer, takeAnswer, takeRefusal, taken, digestOf, written}
 use Rattle.hash.specs.Form.{formOf, storeAnswer, storeRefusal, restoreAnswer}
 use Rattle.hash.specs.declared.Hash.{Hash}
 use Rattle.hash.specs.declared.Opened.{Opened}
 use Rattle.hash.specs.declared.Fed.{Fed}
 use Rattle.hash.specs.declared.Taken.{Taken}
-use Rattle.hash.proofs.Storing.{passed}
-use Rattle.simd_c.specs.Calls.{first, stored, openedHash, openCall, fedFrom, feedCall, takeCall, hashRefusal}
-use Rattle.simd_c.proofs.Laws.{first-refused, first-accepted, written-refused, written-accepted, stored-refused, stored-accepted}
-use Rattle.simd_c.proofs.Opening.{open-refusal, message-refusal, message-taken, message-digest}
+use Rattle.hash.proofs.Refusing.{first-refused, first-accepted, written-refused, written-accepted}
+use Rattle.simd_c.specs.Calls.{stored, openedHash, openCall, fedFrom, feedCall, takeCall}
+use Rattle.simd_c.proofs.Laws.{stored-refused, stored-accepted}
 
 -- A call that answers n, no 0, leaves bytes and number as they were.
 pub keeps-bytes : (call n : ℕ) (bytes out : List ℕ) → n ≡ call → (n ≡ 0 → ⊥) → out ≡ written call bytes out
@@ -37,10 +28,6 @@ turn-first r a b e some = e ∙ sym (first-refused a b (λ z. some (e ∙ z)))
 
 turn-next : (r a b c : ℕ) → r ≡ a → r ≡ 0 → c ≡ b → c ≡ first a b
 turn-next r a b c e none f = f ∙ sym (first-accepted a b (sym e ∙ none))
-
-unknown : (b : Bool) → (_≡_ {A = ℕ} (cond b 0 1) 0 → ⊥) → b ≡ false
-unknown true some = absurd (some refl)
-unknown false some = refl
 
 opened-refusal : {r x : Opened} → r ≡ x → r .refusal ≡ x .refusal
 opened-refusal e = ap (λ (o : Opened). o .refusal) e
@@ -134,53 +121,3 @@ module _ (form out : List ℕ) (r : Opened) (restoring : r ≡ restoreAnswer for
         sym (take-refused (r .hash) out) ∙ sym (ap (λ (a : Taken). a .refusal) taking) ∙ take-call in
         let hash = opened-hash restoring in
         λ i. written (call i) (digestOf (hash i)) out
-
-module _ (width : ℕ) (bytes : List ℕ) (bits : ℕ) (out : List ℕ) (r : Opened) (opening : r ≡ openAnswer width) where
-  refusal-is : r .refusal ≡ cond (isWidth width) 0 1
-  refusal-is = opened-refusal opening ∙ open-refusal width
-
-  pub hash-unopened : (r .refusal ≡ 0 → ⊥) → r .refusal ≡ hashRefusal width bytes bits (length out)
-  unfolding hashRefusal
-  hash-unopened some = refusal-is ∙ rw (unknown (isWidth width) (λ e. some (refusal-is ∙ e)))
-
-  module _ (accepted : r .refusal ≡ 0) (f : Fed) (feeding : f ≡ feedAnswer (r .hash) bytes bits) where
-    known : isWidth width ≡ true
-    known = passed (isWidth width) 0 0 (sym refusal-is ∙ accepted) .0
-
-    fed-answer : f ≡ feedAnswer (openAnswer width .hash) bytes bits
-    fed-answer = feeding ∙ ap (λ (h : Hash). feedAnswer h bytes bits) (opened-hash opening)
-
-    piece-refusal : f .refusal ≡ pieceRefusal 0 bytes bits
-    piece-refusal = ap (λ (a : Fed). a .refusal) fed-answer ∙ message-refusal width known bytes bits
-
-    pub hash-unfed : (f .refusal ≡ 0 → ⊥) → f .refusal ≡ hashRefusal width bytes bits (length out)
-    unfolding hashRefusal
-    hash-unfed some =
-        rw known (turn-first (f .refusal) (pieceRefusal 0 bytes bits) (cond (leb (width / 8) (length out)) 0 6) piece-refusal some)
-
-    module _ (fed : f .refusal ≡ 0) (t : Taken) (taking : t ≡ takeAnswer (f .hash) out) where
-      none : pieceRefusal 0 bytes bits ≡ 0
-      none = sym piece-refusal ∙ fed
-
-      taken-refused : takeRefusal (f .hash) out ≡ cond (leb (width / 8) (length out)) 0 6
-      taken-refused = ap (λ (a : Fed). takeRefusal (a .hash) out) fed-answer ∙ message-taken width known bytes bits none out
-
-      accepts : takeRefusal (f .hash) out ≡ hashRefusal width bytes bits (length out)
-      unfolding hashRefusal
-      accepts = taken-refused ∙ sym (rw known (first-accepted (pieceRefusal 0 bytes bits) (cond (leb (width / 8) (length out)) 0 6) none))
-
-      pub hash-call : t .refusal ≡ hashRefusal width bytes bits (length out)
-      hash-call = ap (λ (a : Taken). a .refusal) taking ∙ take-refused (f .hash) out ∙ accepts
-
-      pub hash-bytes : written (takeRefusal (f .hash) out) (digestOf (f .hash)) out
-          ≡ written (hashRefusal width bytes bits (length out)) (digest width (message bytes bits)) out
-      hash-bytes = elim (ℕ-discrete (takeRefusal (f .hash) out) 0) [
-        | yes zero-refusal ↦
-            let room = leb-true (width / 8) (length out) (passed (leb (width / 8) (length out)) 0 5 (sym taken-refused ∙ zero-refusal) .0) in
-            ap (λ (a : Fed). written (takeRefusal (a .hash) out) (digestOf (a .hash)) out) fed-answer
-            ∙ message-digest width known bytes bits none out room
-            ∙ sym (written-accepted _ (digest width (message bytes bits)) out (sym accepts ∙ zero-refusal))
-        | no some ↦
-            written-refused _ (digestOf (f .hash)) out some
-            ∙ sym (written-refused _ (digest width (message bytes bits)) out (λ e. some (accepts ∙ e)))
-      ]

@@ -1,28 +1,7 @@
--- A first refusal hides a second one, and a refusal leaves what was lent.
-use mathlib.Core.List.{List, _++_}
+-- A refusal leaves the numbers that were lent.
 use mathlib.Core.Path.{_≡_, refl, ap}
 use Prim.Native.Nat.{ℕ, zero, suc}
-use lib.ListN.{length, drop}
-use Rattle.hash.specs.Open.{written}
-use Rattle.simd_c.specs.Calls.{first, stored, placed}
-
-pub first-refused : (r s : ℕ) → (r ≡ 0 → ⊥) → first r s ≡ r
-unfolding first
-first-refused zero s some = absurd (some refl)
-first-refused (suc n) s some = refl
-
-pub first-accepted : (r s : ℕ) → r ≡ 0 → first r s ≡ s
-unfolding first
-first-accepted r s none = ap (λ n. first n s) none
-
-pub written-refused : (r : ℕ) (bytes out : List ℕ) → (r ≡ 0 → ⊥) → written r bytes out ≡ out
-unfolding written
-written-refused zero bytes out some = absurd (some refl)
-written-refused (suc n) bytes out some = refl
-
-pub written-accepted : (r : ℕ) (bytes out : List ℕ) → r ≡ 0 → written r bytes out ≡ bytes ++ drop (length bytes) out
-unfolding written
-written-accepted r bytes out none = ap (λ n. written n bytes out) none
+use Rattle.simd_c.specs.Calls.{stored, placed}
 
 pub stored-refused : (r new old : ℕ) → (r ≡ 0 → ⊥) → stored r new old ≡ old
 unfolding stored

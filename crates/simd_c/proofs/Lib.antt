@@ -1,4 +1,2 @@
 pub mod Laws
-pub mod Fitting
-pub mod Opening
 pub mod Answers

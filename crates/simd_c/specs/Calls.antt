@@ -1,22 +1,14 @@
 -- What the calls of the C door answer, and what they leave behind in what they were lent, over the definitions of the crates below.
-use mathlib.Core.Bool.{cond}
 use mathlib.Core.List.{List}
-use Prim.Native.Nat.{ℕ, zero, suc, _/_}
-use lib.Dec.{leb}
+use Prim.Native.Nat.{ℕ, zero, suc}
 use lib.ListN.{length}
-use Rattle.simd.specs.Basic.{isWidth}
-use Rattle.hash.specs.Open.{openAnswer, pieceRefusal, feedAnswer, takeAnswer}
+use Rattle.hash.specs.Open.{first, openAnswer, feedAnswer, takeAnswer}
 use Rattle.hash.specs.Form.{storeAnswer, restoreAnswer}
 use Rattle.hash.specs.declared.Hash.{Hash}
 use Rattle.hash.specs.declared.Fed.{Fed}
 use Rattle.tape.specs.Run.{Run, closed, runFrom, within}
 use Rattle.pairs.specs.declared.Verdict.{Verdict}
 use Rattle.pairs.specs.declared.Verdict.the-variants.{Same, Apart, Meet, Refused}
-
--- The first of two refusals that is no 0.
-unfoldable pub first : ℕ → ℕ → ℕ
-first zero r = r
-first (suc n) r = suc n
 
 -- A number behind a pointer: a refusal leaves it as it was.
 unfoldable pub stored : ℕ → ℕ → ℕ → ℕ
@@ -42,10 +34,6 @@ feedCall form piece bits =
 -- simd_take: the form is restored and taken.
 unfoldable pub takeCall : List ℕ → List ℕ → ℕ
 takeCall form out = first (restoreAnswer form .refusal) (takeAnswer (restoreAnswer form .hash) out .refusal)
-
--- simd_hash: 1 for an unknown width, then 2, 3 or 4 for the message as for a piece after no bits, then 6 for too short an output.
-unfoldable pub hashRefusal : ℕ → List ℕ → ℕ → ℕ → ℕ
-hashRefusal width bytes bits room = cond (isWidth width) (first (pieceRefusal 0 bytes bits) (cond (leb (width / 8) room) 0 6)) 1
 
 -- simd_compare: the answer's refusal, its verdict (0 Same, 1 Apart, 2 Meet) and the number of the block where two messages meet.
 unfoldable pub refusalOf : Verdict → ℕ

@@ -7,12 +7,13 @@ ghost use Rattle.simd.specs.Message.{message as messageOf};
 ghost use Rattle.simd.specs.Hash.{digest};
 ghost use Rattle.hash.specs.Open.{takeAnswer, digestOf, written};
 ghost use Rattle.hash.specs.Form.{formOf, restoreAnswer};
+ghost use Rattle.digest.specs.Call.{digestRefusal};
 ghost use Rattle.pairs.specs.Answer.{answer};
 ghost use Rattle.expansion.specs.Call.{expandRefusal, expandOutput};
 ghost use Rattle.stepping.specs.Call.{stepsRefusal, stepsOutput, forward, backward};
 ghost use Rattle.tape.specs.Run.{ranOf, output};
 ghost use Rattle.text.specs.Text.{over};
-ghost use Rattle.simd_c.specs.Calls.{stored, openedHash, openCall, fedFrom, feedCall, takeCall, hashRefusal, refusalOf, verdictAfter, blockAfter, runWithin, placed};
+ghost use Rattle.simd_c.specs.Calls.{stored, openedHash, openCall, fedFrom, feedCall, takeCall, refusalOf, verdictAfter, blockAfter, runWithin, placed};
 use hash::Hash;
 use pairs::Verdict;
 
@@ -83,23 +84,11 @@ pub extern "C" fn simd_take(form: &[u8], out: &mut [u8], blocks: &mut u64) -> u8
 
 #[no_mangle]
 pub extern "C" fn simd_hash(width: u16, message: &[u8], bits: u64, out: &mut [u8]) -> u8
-    ensures { λ r. ⌜ r ≡ hashRefusal width (now (message .entry)) bits (length (now (out .entry))) ⌝ }
-    ensures { λ r. ⌜ now (out .exit) ≡ written (hashRefusal width (now (message .entry)) bits (length (now (out .entry))))
+    ensures { λ r. ⌜ r ≡ digestRefusal width (now (message .entry)) bits (length (now (out .entry))) ⌝ }
+    ensures { λ r. ⌜ now (out .exit) ≡ written (digestRefusal width (now (message .entry)) bits (length (now (out .entry))))
         (digest width (messageOf (now (message .entry)) bits)) (now (out .entry)) ⌝ }
 {
-    let opened = Hash::open(width);
-    let refusal = opened.refusal;
-    if refusal != 0 {
-        return refusal;
-    }
-    let hash = opened.hash;
-    let fed = hash.feed(message, bits as usize);
-    let refused = fed.refusal;
-    if refused != 0 {
-        return refused;
-    }
-    let next = fed.hash;
-    next.take(out).refusal
+    digest::digest(width, message, bits as usize, out)
 }
 
 #[no_mangle]

@@ -14,7 +14,7 @@ use Rattle.simd.specs.Hash.{chain, digest, compressions}
 use Rattle.laws.proofs.Bits.{Bits}
 use Rattle.tail.proofs.Sizes.{words-within, chain-length}
 use Rattle.tail.proofs.Zeros.{getD-padded}
-use Rattle.hash.specs.Open.{limit, family, legal, reached, pending, holding, openAnswer, fullBlocks, advanced, feedAnswer, takeAnswer, takeRefusal, digestOf, written}
+use Rattle.hash.specs.Open.{limit, family, legal, reached, pending, holding, openAnswer, fullBlocks, advanced, feedAnswer, takeAnswer, takeRefusal, digestOf, written, first}
 use Rattle.hash.specs.Form.{formBytes, formOf, storeRefusal, storeAnswer, restoreAnswer}
 use Rattle.hash.specs.declared.Hash.{Hash}
 use Rattle.hash.specs.declared.Opened.{Opened}
@@ -22,11 +22,12 @@ use Rattle.hash.specs.declared.Fed.{Fed}
 use Rattle.hash.proofs.Holding.{Value, length-reached}
 use Rattle.hash.proofs.Feeding.{Whole, advanced-sized, advanced-bits, advanced-legal, fed-whole, length-message, bits-message}
 use Rattle.hash.proofs.Storing.{reached-fits, form-length}
+use Rattle.hash.proofs.Refusing.{written-accepted}
 use Rattle.hash_theorems.proofs.Theorems.{Piece, joined, feedAll, Wholes, open-known, feed-all, bits-joined, cutting, stored-restored}
-use Rattle.simd_c.specs.Calls.{first, stored, openedHash, openCall, fedFrom, feedCall, takeCall}
-use Rattle.simd_c.proofs.Laws.{written-accepted, stored-accepted}
-use Rattle.simd_c.proofs.Fitting.{chain-fits}
-use Rattle.simd_c.proofs.Opening.{opened-legal, opened-value, opened-bits}
+use Rattle.simd_c.specs.Calls.{stored, openedHash, openCall, fedFrom, feedCall, takeCall}
+use Rattle.simd_c.proofs.Laws.{stored-accepted}
+use Rattle.simd_c_theorems.proofs.Fitting.{chain-fits}
+use Rattle.simd_c_theorems.proofs.Opening.{opened-legal, opened-value, opened-bits}
 use Rattle.simd_c.proofs.Answers.{take-refused}
 
 -- The form that simd_open leaves, and the form and the sum of the blocks that simd_feed leaves, called for one piece after the other. The

@@ -7,6 +7,7 @@ use words::left;
 use words::rotated_plus;
 use words::rotation;
 use words::turn;
+ghost use mathlib.Core.List.{[], _∷_};
 ghost use mathlib.Core.Path.{_≡_};
 ghost use Prim.Native.Nat.{_+_, _<_, _≤_, _%_};
 ghost use lib.Bits.{bitXor};
@@ -96,6 +97,13 @@ fn half(
     ]
 }
 
+// A row of eight words from its halves.
+fn joined(l: [u32; 4], h: [u32; 4]) -> [u32; 8]
+    ensures { λ v. ⌜ v ≡ getD l 0 0 ∷ getD l 1 0 ∷ getD l 2 0 ∷ getD l 3 0 ∷ getD h 0 0 ∷ getD h 1 0 ∷ getD h 2 0 ∷ getD h 3 0 ∷ [] ⌝ }
+{
+    [l[0], l[1], l[2], l[3], h[0], h[1], h[2], h[3]]
+}
+
 // The state after step i from new B.
 fn mixed(
     st: [[u32; 8]; 4],
@@ -112,7 +120,7 @@ fn mixed(
     let x = e[i % 7];
     let l = half(st, w, b, s, x, i, 0);
     let h = half(st, w, b, s, x, i, 4);
-    let a = [l[0], l[1], l[2], l[3], h[0], h[1], h[2], h[3]];
+    let a = joined(l, h);
     let c = st[1];
     let d = st[2];
     [a, b, c, d]

@@ -15,7 +15,7 @@ use Rattle.simd.specs.Basic.{Family, small, large, familyOf, blockBytes, blockB
 use Rattle.simd.specs.Message.{bitsOf, byteOf, block}
 use Rattle.simd.specs.Steps.{compression}
 use Rattle.simd.specs.Hash.{chain}
-use Rattle.compression.specs.Absorbed.{absorbed}
+use Rattle.iteration.specs.Blocks.{absorbed}
 use Rattle.laws.proofs.Table.{length-table, getD-table, table-of, table-ext}
 use Rattle.laws.proofs.Bits.{Bits, byte-lt, byte-past, byte-append, byte-seam, byte-behind, bits-append, bits-take, bits-bitsOf, length-bitsOf}
 use Rattle.laws.proofs.Chain.{byte-drop}
@@ -24,7 +24,7 @@ use Rattle.tail.specs.Shift.{carryAt, shifted, poured, Ready, Crossing, 
 use Rattle.tail.proofs.Zeros.{padded-take}
 use Rattle.tail.proofs.Sizes.{byte-clear}
 use Rattle.tail.proofs.Absorbing.{absorbed-chain}
-use Rattle.tail.proofs.Running.{shifted-drop}
+use Rattle.tail.proofs.Running.{shifted-bytes, shifted-drop}
 
 -- What a byte times 2 ^ e gives, where o + e is 8.
 scaled-high : (b o e : ℕ) → o + e ≡ 8 → b * 2 ^ e / 256 ≡ b / 2 ^ o
@@ -176,7 +176,7 @@ module _ (width used : ℕ) (state tail src : List ℕ) (count : ℕ) (r : Ready
         let f = familyOf width in
         let g = shifted (2 ^ (8 - used % 8)) (carryAt (2 ^ (8 - used % 8)) (getD tail (used / 8) 0) src a) (drop a src) in
         absorbed-chain f s (joinedBits used tail src count) (table (blockBytes f * n) g) c n
-        (omega (arith, length-table (blockBytes f * n) g))
+        (shifted-bytes (blockBytes f * n) (2 ^ (8 - used % 8)) (carryAt (2 ^ (8 - used % 8)) (getD tail (used / 8) 0) src a) (drop a src))
         (λ i below. getD-table (blockBytes f * n) g i 0 below ∙ rest-byte i)
 
     pub rest-tail : table 128 (poured (table 128 (λ _. 0)) 0 (2 ^ (8 - used % 8)) (carryAt (2 ^ (8 - used % 8)) (getD tail (used / 8) 0) src a) (drop a src))

@@ -1,73 +1,69 @@
--- Laws of the last blocks, and of words and numbers written.
+-- The last bits of a message: whole bytes that are clear past them.
 use mathlib.Core.Bool.{true}
 use mathlib.Core.List.{List}
-use mathlib.Core.Path.{_≡_, refl, sym, ap, _∙_}
+use mathlib.Core.Path.{_≡_, sym, ap, _∙_}
 use Prim.Native.Nat.{ℕ, _+_, _*_, _-_, _/_, _%_, _<_, _≤_}
-use native.Mathlib.Nat.{zero-add, mul-zero}
+use native.Mathlib.Decide.{decLt}
+use native.Mathlib.Nat.{sub-zero}
 use native.Mathlib.Omega.{arith}
-use lib.ListN.{length, getD, take, length-take}
+use lib.ListN.{length, getD, take, length-take, List·getD-eq-default}
 use lib.Seq.{getD-take}
-use Rattle.simd.specs.Basic.{Family, small, large, blockBytes, blockBits, stateWords}
-use Rattle.simd.specs.Message.{bitsOf, byteOf, messageBlocks, lengthBlock}
+use Rattle.simd.specs.Basic.{Family, small, large, blockBytes, blockBits}
+use Rattle.simd.specs.Message.{bitsOf, byteOf, messageBlocks}
 use Rattle.simd.specs.Steps.{compression}
 use Rattle.simd.specs.Hash.{chain, compressions}
-use Rattle.compression.specs.Absorbed.{absorbed}
+use Rattle.iteration.specs.Blocks.{absorbed}
+use Rattle.laws.proofs.Bits.{byte-bitsOf, byte-past}
+use Rattle.laws.proofs.Chain.{chain-ext}
 use Rattle.tail.specs.Zero.{clear, padded}
-use Rattle.tail.proofs.Zeros.{take-padded}
-use Rattle.tail.proofs.Sizes.{byte-clear, words-within, chain-length}
-use Rattle.tail.proofs.Absorbing.{absorbed-chain}
+use Rattle.tail.proofs.Sizes.{byte-clear}
 
-no-tail-blocks : (f : Family) → messageBlocks f 0 ≡ 0
+-- The blocks of n bits are those of the bytes that hold them.
+byte-blocks : (f : Family) (n l : ℕ) → l ≡ (n + 7) / 8 → (l + (blockBytes f - 1)) / blockBytes f ≡ messageBlocks f n
 unfolding messageBlocks
-no-tail-blocks small = refl
-no-tail-blocks large = refl
+byte-blocks small n l e = omega arith
+byte-blocks large n l e = omega arith
 
-one-tail-block : (f : Family) (u : ℕ) → 0 < u → u < blockBits f → messageBlocks f u ≡ 1
-unfolding messageBlocks
-one-tail-block small u some below = omega arith
-one-tail-block large u some below = omega arith
+module _ (bytes : List ℕ) (n : ℕ) (zeros : clear n bytes ≡ true) (fits : (i : ℕ) → getD bytes i 0 < 256) where
+  -- The bytes that hold the first n bits.
+  abbrev held : List ℕ
+  held = take ((n + 7) / 8) bytes
 
-one-block : (f : Family) (n : ℕ) → n ≡ blockBytes f → n / blockBytes f ≡ 1
-one-block small n same = omega arith
-one-block large n same = omega arith
+  held-byte : (j : ℕ) → byteOf (bitsOf held) j ≡ byteOf (take n (bitsOf bytes)) j
+  held-byte j = elim (decLt j ((n + 7) / 8)) [
+    | yes low ↦
+        let same = getD-take ((n + 7) / 8) bytes j 0 low in
+        byte-bitsOf held j (omega (arith, same, fits j)) ∙ same ∙ sym (byte-clear n bytes j zeros (fits j))
+    | no past ↦
+        let none = List·getD-eq-default held 0 {n = j} (omega (arith, length-take ((n + 7) / 8) bytes)) in
+        byte-bitsOf held j (omega (arith, none)) ∙ none ∙ sym (byte-past (take n (bitsOf bytes)) j (omega (arith, length-take n (bitsOf bytes))))
+  ]
 
-bits-below : (f : Family) (n : ℕ) → n % blockBits f < blockBits f
-bits-below small n = omega arith
-bits-below large n = omega arith
+  -- The state after all of their blocks.
+  pub concluded : (f : Family) (w : List ℕ) → n ≤ 8 * length bytes
+      → absorbed f w held ((length held + (blockBytes f - 1)) / blockBytes f) ≡ chain f w (take n (bitsOf bytes)) (messageBlocks f n)
+  concluded f w within =
+      chain-ext f w (bitsOf held) (take n (bitsOf bytes)) _ (λ j _. held-byte j)
+      ∙ ap (chain f w (take n (bitsOf bytes))) (byte-blocks f n (length held) (omega (arith, length-take ((n + 7) / 8) bytes)))
 
-module _ (f : Family) (w tail : List ℕ) (bits : ℕ) where
-  -- No bit is left.
-  pub closed-empty : (u : ℕ) → u ≡ bits % blockBits f → u ≡ 0 → (state′ : List ℕ) → state′ ≡ padded 32 (compression f true w (lengthBlock f bits))
-      → (state′ ≡ padded 32 (compression f true (chain f w (take (bits % blockBits f) (bitsOf tail)) (messageBlocks f (bits % blockBits f))) (lengthBlock f bits)))
-      × (1 ≡ compressions f (bits % blockBits f))
-  unfolding chain compressions
-  closed-empty u same none state′ stated =
-      let empty : 0 ≡ bits % blockBits f = sym none ∙ same in
-      let blocks : 0 ≡ messageBlocks f (bits % blockBits f) = sym (no-tail-blocks f) ∙ ap (messageBlocks f) empty in (
-        stated ∙ ap (λ (k : ℕ). padded 32 (compression f true (chain f w (take (bits % blockBits f) (bitsOf tail)) k) (lengthBlock f bits))) blocks,
-        omega (arith, blocks),
-      )
+  -- The length block after them, where the bytes were cut at u.
+  pub closed : (f : Family) (w last : List ℕ) (u : ℕ) {state : List ℕ} → u ≡ n → n ≤ 8 * length bytes
+      → state ≡ padded 32 (compression f true
+      (absorbed f w (take ((u + 7) / 8 - 0) bytes) ((length (take ((u + 7) / 8 - 0) bytes) + (blockBytes f - 1)) / blockBytes f)) last)
+      → state ≡ padded 32 (compression f true (chain f w (take n (bitsOf bytes)) (messageBlocks f n)) last)
+  closed f w last u same within stated =
+      let cut : take ((u + 7) / 8 - 0) bytes ≡ held = ap (λ (k : ℕ). take k bytes) (sub-zero ((u + 7) / 8) ∙ ap (λ (k : ℕ). (k + 7) / 8) same) in
+      stated
+      ∙ ap (λ (l : List ℕ). padded 32 (compression f true (absorbed f w l ((length l + (blockBytes f - 1)) / blockBytes f)) last)) cut
+      ∙ ap (λ (s : List ℕ). padded 32 (compression f true s last)) (concluded f w within)
 
-  -- The tail's block, and the length block.
-  pub closed-full : (u size : ℕ) → u ≡ bits % blockBits f → (u ≡ 0 → ⊥) → size ≡ blockBytes f → blockBytes f ≤ length tail → clear (bits % blockBits f) tail ≡ true
-      → ((i : ℕ) → getD tail i 0 < 256) → length w ≡ stateWords f → (state₁ state₂ : List ℕ)
-      → state₁ ≡ padded 32 (absorbed f w (take (size - 0) tail) (length (take (size - 0) tail) / blockBytes f))
-      → state₂ ≡ padded 32 (compression f true (take (stateWords f) state₁) (lengthBlock f bits))
-      → (state₂ ≡ padded 32 (compression f true (chain f w (take (bits % blockBits f) (bitsOf tail)) (messageBlocks f (bits % blockBits f))) (lengthBlock f bits)))
-      × (2 ≡ compressions f (bits % blockBits f))
-  unfolding compressions chain
-  closed-full u size same some one within zeros fits long state₁ state₂ first second =
-      let m = take (bits % blockBits f) (bitsOf tail) in
-      let x = take (size - 0) tail in
-      let blocks : 1 ≡ messageBlocks f (bits % blockBits f) = sym (one-tail-block f (bits % blockBits f) (omega arith) (bits-below f bits)) in
-      let count : length x / blockBytes f ≡ 1 = one-block f (length x) (omega (arith, length-take (size - 0) tail)) in
-      let bytes : (i : ℕ) → i < blockBytes f * 1 → getD x i 0 ≡ byteOf m (blockBytes f * 0 + i) =
-      λ i below.
-      let place : i ≡ blockBytes f * 0 + i = sym (ap (λ (n : ℕ). n + i) (mul-zero (blockBytes f)) ∙ zero-add i) in
-      getD-take (size - 0) tail i 0 (omega arith) ∙ sym (byte-clear (bits % blockBits f) tail i zeros (fits i)) ∙ ap (byteOf m) place in
-      let on : absorbed f w x 1 ≡ chain f w m 1 = absorbed-chain f w m x 0 1 (omega (arith, length-take (size - 0) tail)) bytes in
-      let reached : absorbed f w x (length x / blockBytes f) ≡ chain f w m (messageBlocks f (bits % blockBits f)) = ap (absorbed f w x) count ∙ on ∙ ap (chain f w m) blocks in
-      let came : take (stateWords f) state₁ ≡ chain f w m (messageBlocks f (bits % blockBits f)) =
-      ap (take (stateWords f)) (first ∙ ap (padded 32) reached)
-      ∙ take-padded 32 (stateWords f) (chain f w m (messageBlocks f (bits % blockBits f))) (chain-length f w m (messageBlocks f (bits % blockBits f)) long) (words-within f) in
-      (second ∙ ap (λ (s : List ℕ). padded 32 (compression f true s (lengthBlock f bits))) came, omega (arith, blocks))
+-- The number of compressions that fewer bits than a block take.
+pub one-compression : (f : Family) (n u : ℕ) → u ≡ n % blockBits f → u ≡ 0 → 1 ≡ compressions f (n % blockBits f)
+unfolding compressions messageBlocks
+one-compression small n u e none = omega arith
+one-compression large n u e none = omega arith
+
+pub two-compressions : (f : Family) (n u : ℕ) → u ≡ n % blockBits f → (u ≡ 0 → ⊥) → 2 ≡ compressions f (n % blockBits f)
+unfolding compressions messageBlocks
+two-compressions small n u e some = omega arith
+two-compressions large n u e some = omega arith

@@ -4,20 +4,24 @@ use mathlib.Core.List.{List, _++_, append-assoc}
 use mathlib.Core.Path.{_≡_, refl, sym, ap, _∙_}
 use Prim.Native.Nat.{ℕ, zero, suc, _+_, _*_, _-_, _/_, _%_, min, _<_, _≤_}
 use native.Mathlib.Nat.{add-zero, zero-add, add-suc, mul-mod-left, mul-zero, sub-zero}
+use native.Mathlib.Decide.{decLt}
 use native.Mathlib.Omega.{arith}
 use borrow.Rule.Slice.PartMut.{putMid, postOf}
-use lib.ListN.{length, getD, take, drop, length-append, length-take}
-use lib.Seq.{take-all, take-at, length-take-le, getD-take, getD-drop, drop-drop}
+use lib.ListN.{length, getD, take, drop, length-append, length-take, List·getD-append, List·getD-eq-default}
+use lib.Seq.{take-all, take-at, length-take-le, getD-take, getD-drop, drop-drop, getD-append-add}
 use Rattle.simd.specs.Basic.{Family, small, large, familyOf, blockBytes, stateWords, table}
 use Rattle.simd.specs.Steps.{compression}
-use Rattle.compression.specs.Absorbed.{absorbed}
+use Rattle.simd.specs.Message.{bitsOf}
+use Rattle.simd.specs.Hash.{chain}
+use Rattle.iteration.specs.Blocks.{absorbed}
+use Rattle.iteration.proofs.BlockLaws.{block-whole}
 use Rattle.laws.proofs.Table.{length-table, getD-table, table-of, table-ext}
 use Rattle.tail.specs.Zero.{padded}
 use Rattle.tail.specs.Shift.{carryAt, shifted, poured, Crossing}
 use Rattle.tail.proofs.Zeros.{take-padded, length-padded}
-use Rattle.tail.proofs.Sizes.{words-within}
+use Rattle.tail.proofs.Sizes.{words-within, chain-length}
 use Rattle.tail.proofs.Parts.{back}
-use Rattle.tail.proofs.Absorbing.{absorbed-length, absorbed-on}
+use Rattle.tail.proofs.Absorbing.{absorbed-on}
 use Rattle.laws.proofs.Chain.{length-compression}
 
 -- A part of a source, behind the carry that stands there.
@@ -37,6 +41,14 @@ module _ (scale carry : ℕ) (src : List ℕ) (at n : ℕ) where
       let held = carry-on i (omega arith) in
       let byte = part-byte i inside in
       λ t. (held t + byte t * scale / 256) % 256
+
+-- What is shifted is bytes.
+pub shifted-bytes : (n scale carry : ℕ) (src : List ℕ) (i : ℕ) → getD (table n (shifted scale carry src)) i 0 < 256
+unfolding shifted
+shifted-bytes n scale carry src i = elim (decLt i n) [
+  | yes low ↦ omega (arith, getD-table n (shifted scale carry src) i 0 low)
+  | no past ↦ omega (arith, List·getD-eq-default (table n (shifted scale carry src)) 0 {n = i} (omega (arith, length-table n (shifted scale carry src))))
+]
 
 -- The first n bytes of a source.
 pub shifted-take : (scale carry : ℕ) (src : List ℕ) (n : ℕ) → n ≤ length src → table (length (take n src)) (shifted scale carry (take n src)) ≡ table n (shifted scale carry src)
@@ -90,7 +102,7 @@ pub record Running (f : Family) (s : List ℕ) (scale carry : ℕ) (src : List �
 
 pub running-none : (f : Family) (scale carry : ℕ) (src state buffer : List ℕ) → state ≡ padded 32 (take (stateWords f) state) → length buffer ≡ 1024
     → Running f (take (stateWords f) state) scale carry src 0 state buffer carry
-unfolding absorbed carryAt
+unfolding chain carryAt
 running-none f scale carry src state buffer fits room =
     record {
       within = omega arith;
@@ -123,7 +135,7 @@ module _ (f : Family) (s : List ℕ) (words : length s ≡ stateWords f) (scale 
       let filled : blockBytes f * (n / blockBytes f) ≡ n = ap (λ (m : ℕ). blockBytes f * (m / blockBytes f)) same ∙ facts .2 ∙ sym same in
       let before : take (stateWords f) state ≡ absorbed f s t j =
       ap (take (stateWords f)) (r .came)
-      ∙ take-padded 32 (stateWords f) (absorbed f s t j) (absorbed-length f s t j words) (words-within f) in
+      ∙ take-padded 32 (stateWords f) (absorbed f s t j) (chain-length f s (bitsOf t) j words) (words-within f) in
       let bytes : (i : ℕ) → i < blockBytes f * (n / blockBytes f) → getD x i 0 ≡ getD t (blockBytes f * j + i) 0 =
       λ i below.
       let inside : i < n = omega (arith, filled) in
@@ -134,9 +146,7 @@ module _ (f : Family) (s : List ℕ) (words : length s ≡ stateWords f) (scale 
       ∙ ap (λ (m : ℕ). getD t (m + i) 0) (sym (facts .3)) in
       let on =
       absorbed-on f s t x j (n / blockBytes f)
-      (omega (arith, filled, facts .3, length-table (length src) (shifted scale carry src)))
-      (omega (arith, filled, length-table n (shifted scale held part)))
-      bytes in
+      (shifted-bytes (length src) scale carry src) (shifted-bytes n scale held part) bytes in
       let came = stated ∙ ap (λ (w : List ℕ). padded 32 (absorbed f w x (n / blockBytes f))) before ∙ ap (padded 32) on ∙ ap (λ (m : ℕ). padded 32 (absorbed f s t m)) blocks in
       record {
         within = omega arith;
@@ -171,12 +181,24 @@ one-block : (f : Family) → blockBytes f / blockBytes f ≡ 1
 one-block small = refl
 one-block large = refl
 
+pub joined-bytes : (xs ys : List ℕ) (at i : ℕ) → ((j : ℕ) → getD xs j 0 < 256) → ((j : ℕ) → getD ys j 0 < 256) → getD (take at xs ++ ys) i 0 < 256
+joined-bytes xs ys at i fits-x fits-y = elim (decLt i (length (take at xs))) [
+  | yes low ↦
+      let same = List·getD-append (take at xs) ys 0 i low ∙ getD-take at xs i 0 (omega (arith, length-take at xs)) in
+      omega (arith, same, fits-x i)
+  | no past ↦
+      let place : length (take at xs) + (i - length (take at xs)) ≡ i = omega arith in
+      let same = ap (λ (k : ℕ). getD (take at xs ++ ys) k 0) (sym place) ∙ getD-append-add (take at xs) ys (i - length (take at xs)) 0 in
+      omega (arith, same, fits-y (i - length (take at xs)))
+]
+
 -- The tail's block, with a part put behind its bytes.
 pub completed : (f : Family) (s tail xs : List ℕ) (at end : ℕ) → at ≤ end → end ≤ length tail → length xs ≡ end - at → end ≡ blockBytes f
+    → ((i : ℕ) → getD (take at tail ++ xs) i 0 < 256)
     → absorbed f s (take (end - 0) (putMid at (end - at) tail xs)) (length (take (end - 0) (putMid at (end - at) tail xs)) / blockBytes f)
     ≡ compression f false s (take at tail ++ xs)
-unfolding absorbed
-completed f s tail xs at end order within size whole =
+unfolding chain
+completed f s tail xs at end order within size whole fits =
     let joined = take at tail ++ xs in
     let long : length joined ≡ end = omega (arith, length-append (take at tail) xs, length-take at tail) in
     let front : take (end - 0) (putMid at (end - at) tail xs) ≡ joined =
@@ -184,11 +206,11 @@ completed f s tail xs at end order within size whole =
     ∙ ap (take end) (sym (append-assoc (take at tail) xs (postOf at (end - at) tail)))
     ∙ take-at joined (postOf at (end - at) tail) end long in
     let count : length joined / blockBytes f ≡ 1 = ap (λ (n : ℕ). n / blockBytes f) (long ∙ whole) ∙ one-block f in
-    let all : take (blockBytes f) (drop (blockBytes f * 0) joined) ≡ joined =
-    ap (λ (n : ℕ). take (blockBytes f) (drop n joined)) (mul-zero (blockBytes f)) ∙ take-all (blockBytes f) joined (omega arith) in
+    let all : joined ≡ take (blockBytes f) (drop (blockBytes f * 0) joined) =
+    sym (ap (λ (n : ℕ). take (blockBytes f) (drop n joined)) (mul-zero (blockBytes f)) ∙ take-all (blockBytes f) joined (omega arith)) in
     ap (λ (l : List ℕ). absorbed f s l (length l / blockBytes f)) front
     ∙ ap (absorbed f s joined) count
-    ∙ ap (compression f false s) all
+    ∙ ap (compression f false s) (sym (block-whole f joined 0 fits (omega arith) all))
 
 -- A source without its first a bytes, behind the carry that stands there.
 pub carry-drop : (scale carry : ℕ) (src : List ℕ) (a i : ℕ) → carryAt scale (carryAt scale carry src a) (drop a src) i ≡ carryAt scale carry src (a + i)

@@ -11,7 +11,7 @@ ghost use Rattle.simd.specs.Basic.{familyOf, blockBytes, blockBits, stateWords,
 ghost use Rattle.simd.specs.Message.{bitsOf, byteOf, messageBlocks, lengthBlock};
 ghost use Rattle.simd.specs.Steps.{compression};
 ghost use Rattle.simd.specs.Hash.{chain, compressions};
-ghost use Rattle.compression.specs.Absorbed.{absorbed};
+ghost use Rattle.iteration.specs.Blocks.{absorbed};
 ghost use Rattle.tail.specs.Zero.{allZero, clear, padded};
 ghost use Rattle.tail.specs.Shift.{carryAt, shifted, poured, Ready, Crossing, joinedBits};
 
@@ -140,27 +140,30 @@ fn absorb(width: u16, state: &mut [u32; 32], bytes: &[u8])
 {
     if width <= 256 {
         let mut small = narrow(*state);
-        compression::absorb_small(&mut small, bytes);
+        iteration::small::absorb(&mut small, bytes);
         let wide = widen(small);
         *state = wide;
     } else {
-        compression::absorb_large(state, bytes);
+        iteration::large::absorb(state, bytes);
     }
 }
 
-// Compresses the length block.
-fn finish(width: u16, state: &mut [u32; 32], bits: u64)
+// Compresses all blocks of a byte string, the last one filled with zeros, and then the length block of so many bits.
+pub fn conclude(width: u16, state: &mut [u32; 32], bytes: &[u8], bits: u64)
     requires { ⌜ length (now state) ≡ 32 ⌝ }
     ensures { λ _. ⌜ now (state .exit)
-        ≡ padded 32 (compression (familyOf width) true (take (stateWords (familyOf width)) (now (state .entry))) (lengthBlock (familyOf width) bits)) ⌝ }
+        ≡ padded 32 (compression (familyOf width) true
+        (absorbed (familyOf width) (take (stateWords (familyOf width)) (now (state .entry))) (now (bytes .entry))
+        ((length (now (bytes .entry)) + (blockBytes (familyOf width) - 1)) / blockBytes (familyOf width)))
+        (lengthBlock (familyOf width) bits)) ⌝ }
 {
     if width <= 256 {
         let mut small = narrow(*state);
-        compression::finish_small(&mut small, bits);
+        iteration::small::conclude(&mut small, bytes, bits);
         let wide = widen(small);
         *state = wide;
     } else {
-        compression::finish_large(state, bits);
+        iteration::large::conclude(state, bytes, bits);
     }
 }
 
@@ -419,12 +422,8 @@ pub fn close(width: u16, bits: u32, state: &mut [u32; 32], tail: &[u8]) -> usize
         (lengthBlock (familyOf width) bits)))
         × (r ≡ compressions (familyOf width) (bits % blockBits (familyOf width))) ⌝ }
 {
-    if used_bits(width, bits) == 0 {
-        finish(width, state, bits as u64);
-        return 1;
-    }
-    let size = block_bytes(width);
-    absorb(width, state, &tail[0..size]);
-    finish(width, state, bits as u64);
-    2
+    let used = used_bits(width, bits);
+    let bytes = (used + 7) / 8;
+    conclude(width, state, &tail[0..bytes], bits as u64);
+    if used == 0 { 1 } else { 2 }
 }

@@ -32,19 +32,19 @@ roots-requires c κs = search needs
 added-large-requires : tie.Need-added-large-requires
 added-large-requires c κs = search needs
 
-sub-absorb-blocks : tie.Need-sub-absorb-blocks
-sub-absorb-blocks c = search needs
+sub-compress-blocks : tie.Need-sub-compress-blocks
+sub-compress-blocks c = search needs
 
-absorb-blocks-requires : tie.Need-absorb-blocks-requires
-absorb-blocks-requires c κs =
+compress-blocks-requires : tie.Need-compress-blocks-requires
+compress-blocks-requires c κs =
     let made = c .before .before .before .before in
     (omega (arith, made .before .before .smaller .ensures), record { rooted = made .before .roots .ensures; constant = made .added-large .ensures })
 
-sub-absorb-blocks-2 : tie.Need-sub-absorb-blocks-2
-sub-absorb-blocks-2 c = search needs
+sub-compress-blocks-2 : tie.Need-sub-compress-blocks-2
+sub-compress-blocks-2 c = search needs
 
-absorb-blocks-requires-2 : tie.Need-absorb-blocks-requires-2
-absorb-blocks-requires-2 c κs =
+compress-blocks-requires-2 : tie.Need-compress-blocks-requires-2
+compress-blocks-requires-2 c κs =
     let made = c .before .before .before .before .before .before .before .before .before in
     (omega (arith, made .before .before .smaller .ensures), record { rooted = made .before .roots .ensures; constant = made .added-large .ensures })
 
@@ -59,7 +59,7 @@ judge-requires c κs = search needs
 
 returns : tie.Need-returns
 returns c =
-    let together = c .before .before .before in
+    let together = c .before .before .before .before .before in
     let second-ahead = together .before .before .before .before .before .before in
     let first-ahead = second-ahead .before .before .before .before .before in
     let counted = first-ahead .before .before .before .before .before .before .before in
@@ -71,7 +71,7 @@ returns c =
     (first .used-part .ensures .0) (second .used-part2 .ensures .0)
     (used-blocks large _ _ (first .used-part .ensures .1)) (used-blocks large _ _ (second .used-part2 .ensures .1))
     (counted .smaller .ensures) _ _ _
-    (together .lockstep .ensures _ _ (first-ahead .absorb-blocks .ensures) (second-ahead .absorb-blocks2 .ensures))
+    (together .lockstep .ensures _ _ (first-ahead .compress-blocks .ensures) (second-ahead .compress-blocks2 .ensures))
 
 pub compare-spec : {M : Type 1} → statement M
 compare-spec =
@@ -85,10 +85,10 @@ compare-spec =
     add-none
     roots-requires
     added-large-requires
-    sub-absorb-blocks
-    absorb-blocks-requires
-    sub-absorb-blocks-2
-    absorb-blocks-requires-2
+    sub-compress-blocks
+    compress-blocks-requires
+    sub-compress-blocks-2
+    compress-blocks-requires-2
     lockstep-requires
     judge-requires
     returns)

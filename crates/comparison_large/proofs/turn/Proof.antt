@@ -1,7 +1,7 @@
 use native.Mathlib.Omega.{arith}
 use borrow.Author.Needs.{needs}
 use Rattle.simd.specs.Basic.{large}
-use Rattle.pairs.proofs.BlockLaws.{length-block, block-whole}
+use Rattle.iteration.proofs.BlockLaws.{length-block, block-whole}
 use Rattle.pairs.proofs.LockstepLaws.{turn-of}
 use Rattle.comparison_large.proofs.turn.Statement.{statement}
 use Rattle.comparison_large.proofs.turn.Tie as tie

@@ -1,4 +1,4 @@
-use mathlib.Core.Path.{ap}
+use mathlib.Core.Path.{ap, _∙_}
 use Prim.Native.Nat.{_%_}
 use lib.ListN.{getD}
 use Rattle.simd.specs.Basic.{large}
@@ -26,29 +26,8 @@ half-requires c κs = search needs
 half-requires-2 : tie.Need-half-requires-2
 half-requires-2 c κs = search needs
 
-array-read-t24 : tie.Need-array-read-t24
-array-read-t24 c = search needs
-
-array-read-t27 : tie.Need-array-read-t27
-array-read-t27 c = search needs
-
-array-read-t30 : tie.Need-array-read-t30
-array-read-t30 c = search needs
-
-array-read-t33 : tie.Need-array-read-t33
-array-read-t33 c = search needs
-
-array-read-t36 : tie.Need-array-read-t36
-array-read-t36 c = search needs
-
-array-read-t39 : tie.Need-array-read-t39
-array-read-t39 c = search needs
-
-array-read-t42 : tie.Need-array-read-t42
-array-read-t42 c = search needs
-
-array-read-t45 : tie.Need-array-read-t45
-array-read-t45 c = search needs
+joined-requires : tie.Need-joined-requires
+joined-requires c κs = search needs
 
 array-copy-out-c : tie.Need-array-copy-out-c
 array-copy-out-c c = search needs
@@ -58,13 +37,14 @@ array-copy-out-d c = search needs
 
 returns : tie.Need-returns
 returns c =
-    let s = c .before .before .before .before .before .before in
+    let s = c .before .before .before .before .before .before .before in
     let p = s .args in
-    let q = c .before .before .before .before .before .rotation in
+    let q = c .before .before .before .before .before .before .rotation in
     ap columns
     (step-columns large (p .i) (p .w .now) (fromColumns (p .t1)) (s .pre .1 .1) (q .ensures .0) (exchange-read large (p .i) (s .pre .0 .1))
-    (halves (rowBy large (p .i) (q .result) (getD (p .e .now) (p .i % 7) 0) (p .w .now) (p .b) (fromColumns (p .t1)))
-    (c .before .before .before .half .ensures) (c .before .before .half2 .ensures)))
+    (c .before .before .joined .ensures
+    ∙ halves (rowBy large (p .i) (q .result) (getD (p .e .now) (p .i % 7) 0) (p .w .now) (p .b) (fromColumns (p .t1)))
+    (c .before .before .before .before .half .ensures) (c .before .before .before .half2 .ensures)))
 
 pub mixed-spec : {M : Type 1} → statement M
 mixed-spec =
@@ -76,14 +56,7 @@ mixed-spec =
     element-copy-out-x
     half-requires
     half-requires-2
-    array-read-t24
-    array-read-t27
-    array-read-t30
-    array-read-t33
-    array-read-t36
-    array-read-t39
-    array-read-t42
-    array-read-t45
+    joined-requires
     array-copy-out-c
     array-copy-out-d
     returns)

@@ -6,7 +6,7 @@ use borrow.Author.Needs.{needs}
 use lib.ListN.{length, take, drop, length-take}
 use lib.Seq.{length-take-le, take-at}
 use Rattle.simd.specs.Basic.{familyOf, stateWords, blockBytes, table}
-use Rattle.compression.specs.Absorbed.{absorbed}
+use Rattle.iteration.specs.Blocks.{absorbed}
 use Rattle.laws.proofs.Table.{length-table}
 use Rattle.tail.specs.Zero.{padded}
 use Rattle.tail.specs.Shift.{carryAt, shifted}

@@ -5,7 +5,7 @@ use borrow.Author.Needs.{needs}
 use borrow.Rule.Slice.PartMut.{mid-len}
 use lib.ListN.{length, take, drop, length-take}
 use Rattle.simd.specs.Basic.{familyOf, blockBytes, stateWords, table}
-use Rattle.compression.specs.Absorbed.{absorbed}
+use Rattle.iteration.specs.Blocks.{absorbed}
 use Rattle.tail.specs.Zero.{padded}
 use Rattle.tail.specs.Shift.{carryAt, shifted}
 use Rattle.tail.proofs.Absorbing.{length-prefix}

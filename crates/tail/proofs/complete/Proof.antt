@@ -3,13 +3,13 @@ use mathlib.Core.List.{List, _++_}
 use mathlib.Core.Path.{ap, _∙_}
 use Prim.Native.Nat.{ℕ, _+_}
 use native.Mathlib.Omega.{arith}
-use lib.ListN.{length, take}
+use lib.ListN.{length, getD, take}
 use Rattle.simd.specs.Basic.{familyOf, stateWords, table}
 use Rattle.simd.specs.Steps.{compression}
 use Rattle.tail.specs.Zero.{padded}
 use Rattle.tail.specs.Shift.{carryAt, shifted}
 use Rattle.tail.proofs.Parts.{part-size}
-use Rattle.tail.proofs.Running.{completed}
+use Rattle.tail.proofs.Running.{shifted-bytes, joined-bytes, completed}
 use borrow.Author.Needs.{needs}
 use Rattle.tail.proofs.complete.Statement.{statement}
 use Rattle.tail.proofs.complete.Tie as tie
@@ -46,7 +46,8 @@ same-length c = search needs
 
 returns : tie.Need-returns
 returns c =
-    let s = c .before .before .before .before .before .before .before .before .before .before in
+    let known = c .before .before .before .before .before .before .before .before .before in
+    let s = known .before in
     let a = s .args in
     let f = familyOf (a .width) in
     let words = take (stateWords f) (a .state .now) in
@@ -57,6 +58,8 @@ returns c =
       c .absorb .ensures
           ∙ ap (padded 32)
           (completed f words (a .tail .now) (shift .last .1 .1 .1 .0) (a .at) (a .at + n) (omega arith) (s .pre .3) (shift .kept .1 .1 .1 .0 ∙ size ∙ omega arith) (s .pre .2)
+          (λ i. joined-bytes (a .tail .now) (shift .last .1 .1 .1 .0) (a .at) i (λ j. known .slice-known .given j .fits)
+          (λ j. omega (arith, ap (λ (l : List ℕ). getD l j 0) wrote, shifted-bytes n (a .scale) (a .carry) (a .part .now) j)))
           ∙ ap (λ (l : List ℕ). compression f false words (take (a .at) (a .tail .now) ++ l)) wrote),
       shift .ensures .1 ∙ ap (carryAt (a .scale) (a .carry) (a .part .now)) size,
     )

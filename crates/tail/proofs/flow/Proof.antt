@@ -5,7 +5,7 @@ use native.Mathlib.Nat.{sub-zero}
 use lib.ListN.{length, take, drop}
 use lib.Seq.{length-take-le}
 use Rattle.simd.specs.Basic.{familyOf, blockBytes, stateWords, table}
-use Rattle.compression.specs.Absorbed.{absorbed}
+use Rattle.iteration.specs.Blocks.{absorbed}
 use Rattle.laws.proofs.Table.{length-table}
 use Rattle.tail.specs.Zero.{padded}
 use Rattle.tail.specs.Shift.{carryAt, shifted, poured}

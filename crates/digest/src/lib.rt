@@ -1,0 +1,42 @@
+// The digest of a message that is at hand whole. No hash is opened: the tables are made once, and full blocks are read in place.
+ghost use mathlib.Core.Path.{_≡_};
+ghost use lib.ListN.{length};
+ghost use Rattle.simd.specs.Message.{message as messageOf};
+ghost use Rattle.simd.specs.Hash.{digest as digestOf};
+ghost use Rattle.hash.specs.Open.{written};
+ghost use Rattle.digest.specs.Call.{digestRefusal};
+
+// Why there is no digest of so many bits of a message for an output of so many bytes, or 0.
+fn refusal(width: u16, message: &[u8], count: usize, room: usize) -> u8
+    ensures { λ r. ⌜ r ≡ digestRefusal width (now (message .entry)) count room ⌝ }
+{
+    if !expansion::is_width(width) {
+        return 1;
+    }
+    let refused = hash::piece_refusal(0, message, count);
+    if refused != 0 {
+        return refused;
+    }
+    if room < (width / 8) as usize {
+        return 6;
+    }
+    0
+}
+
+// Writes the digest of the first `count` bits of a message. Answers the refusal's number, or 0. Refusals 1, 2, 3, 4, 6.
+pub fn digest(width: u16, message: &[u8], count: usize, out: &mut [u8]) -> u8
+    ensures { λ r. ⌜ r ≡ digestRefusal width (now (message .entry)) count (length (now (out .entry))) ⌝ }
+    ensures { λ r. ⌜ now (out .exit) ≡ written (digestRefusal width (now (message .entry)) count (length (now (out .entry))))
+        (digestOf width (messageOf (now (message .entry)) count)) (now (out .entry)) ⌝ }
+{
+    let refused = refusal(width, message, count, out.len());
+    if refused != 0 {
+        return refused;
+    }
+    let mut state = hash::start_state(width);
+    let bytes = (count + 7) / 8;
+    tail::conclude(width, &mut state, &message[0..bytes], count as u64);
+    let length = (width / 8) as usize;
+    form::write_words(&mut out[0..length], state);
+    0
+}
