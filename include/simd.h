@@ -145,8 +145,8 @@ uint8_t simd_take(const uint8_t *form, size_t form_len,
 /* simd_hash - the digest of a message
 
    Writes the digest of the first bits bits of message to the first
-   SIMD_DIGEST(width) bytes of out.  The same as simd_open, simd_feed and
-   simd_take.
+   SIMD_DIGEST(width) bytes of out: the digest that simd_open, simd_feed and
+   simd_take give, worked out in one pass.
 
    Refusals, in order:
      SIMD_REFUSED_WIDTH

@@ -19,7 +19,8 @@ use Rattle.pairs.specs.Pairs.{stateAt, blockAt}
 use Rattle.pairs.specs.Compared.{Found, same, apart, meet, common, found, compared}
 use Rattle.pairs.specs.Answer.{refusal, verdict, answer}
 use Rattle.pairs.specs.declared.Verdict.the-variants.{Same, Apart, Meet}
-use Rattle.pairs.proofs.ByteLaws.{is-message, length-message}
+use Rattle.hash.proofs.Feeding.{length-message}
+use Rattle.pairs.proofs.ByteLaws.{is-message}
 use Rattle.pairs.proofs.RefusalLaws.{Accepted, accepted}
 use Rattle.pairs.proofs.PairLaws.{first-state, out-of-message, out-of-length}
 use Rattle.pairs.proofs.FoundLaws as laws
@@ -87,11 +88,11 @@ module _ (width : ℕ) (a : List ℕ) (na : ℕ) (b : List ℕ) (nb : ℕ) (rule
   same-message : SameBits a na b nb ↔ (x ≡ y)
   same-message = (
     λ s.
-        ext-getD 0 x y (length-message a na first ∙ s .lengths ∙ sym (length-message b nb second))
-        (λ i low. s .bits i (omega (arith, length-message a na first))),
+        ext-getD 0 x y (length-message a na (first .fits) ∙ s .lengths ∙ sym (length-message b nb (second .fits)))
+        (λ i low. s .bits i (omega (arith, length-message a na (first .fits)))),
     λ e.
         record {
-          lengths = sym (length-message a na first) ∙ ap length e ∙ length-message b nb second;
+          lengths = sym (length-message a na (first .fits)) ∙ ap length e ∙ length-message b nb (second .fits);
           bits = λ i low. ap (λ (m : List ℕ). getD m i 0) e;
         },
   )

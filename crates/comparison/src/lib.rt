@@ -1,8 +1,8 @@
 // The comparison of two messages: Same, Apart, or Meet with the number of the block.
 //
-// At each family (`comparison_small`, `comparison_large`) the longer message first absorbs its extra leading blocks alone. From there on both have the same number, counted back from the length
-// block, and go on side by side: before each compression the pairs of state and block are compared. Equal pairs are compressed once, and the
-// last number at which pairs differ is kept.
+// At each family (`comparison_small`, `comparison_large`) the longer message first absorbs its extra leading blocks alone. From there on both
+// have the same number, counted back from the length block, and go on side by side: before each compression the pairs of state and block are
+// compared. Equal pairs are compressed once, and the last number at which pairs differ is kept.
 use pairs::Verdict;
 ghost use mathlib.Core.Bool.{true};
 ghost use mathlib.Core.Path.{_≡_};

@@ -2,7 +2,7 @@
 ghost use mathlib.Core.Path.{_≡_};
 ghost use Rattle.simd.specs.Constants.{start224, start256, start384, start512};
 
-pub mod block;
+pub mod bytes;
 pub mod large;
 pub mod small;
 

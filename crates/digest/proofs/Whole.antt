@@ -2,33 +2,29 @@
 use mathlib.Core.Bool.{true, false, cond}
 use mathlib.Core.List.{List, _++_}
 use mathlib.Core.Path.{_≡_, refl, sym, ap, _∙_}
-use Prim.Native.Nat.{ℕ, zero, suc, _+_, _*_, _-_, _/_, _<_, _≤_}
-use native.Mathlib.Decide.{decLt}
-use native.Mathlib.Nat.{sub-zero}
+use Prim.Native.Nat.{ℕ, _+_, _-_, _/_, _<_, _≤_}
 use native.Mathlib.Omega.{arith}
 use borrow.Author.Tests.{leb-true, lt-leb, le-leb}
 use borrow.Rule.Slice.PartMut.{postOf}
 use lib.Dec.{leb}
-use lib.ListN.{length, getD, take, length-take, List·getD-eq-default}
-use lib.Seq.{take-all, getD-take}
+use lib.ListN.{length, getD, take, length-take}
 use Rattle.simd.specs.Basic.{familyOf, isWidth, blockBytes, stateWords, bytesOf}
 use Rattle.simd.specs.Constants.{start}
-use Rattle.simd.specs.Message.{bitsOf, message, messageBlocks, lengthBlock}
+use Rattle.simd.specs.Message.{message, messageBlocks, lengthBlock}
 use Rattle.simd.specs.Steps.{compression}
 use Rattle.simd.specs.Hash.{chain, final, finalState, digest}
 use Rattle.laws.proofs.Chain.{length-compression}
-use Rattle.laws.proofs.LittleEndian.{length-bytesOf}
 use Rattle.iteration.specs.Blocks.{absorbed}
-use Rattle.tail.specs.Zero.{clear, padded}
+use Rattle.tail.specs.Zero.{padded}
 use Rattle.tail.proofs.Zeros.{take-padded}
 use Rattle.tail.proofs.Sizes.{words-within}
-use Rattle.tail.proofs.Closing.{concluded}
+use Rattle.tail.proofs.Closing.{closed}
 use Rattle.form.proofs.Writing.{state-bytes}
-use Rattle.hash.specs.Open.{pieceRefusal, written, first}
-use Rattle.hash.proofs.Feeding.{length-message, piece-bits, start-length}
-use Rattle.hash.proofs.Digests.{digest-room}
+use Rattle.hash.specs.Open.{pieceRefusal, written}
+use Rattle.hash.proofs.Feeding.{length-message, start-length}
+use Rattle.hash.proofs.Digests.{digest-room, length-digest}
 use Rattle.hash.proofs.Answers.{front-written}
-use Rattle.hash.proofs.Refusing.{first-refused, first-accepted, passed, Accepted as MessageAccepted, accepted as message-accepted}
+use Rattle.hash.proofs.Refusing.{first-refused, first-accepted, passed, both-passed, Accepted as MessageAccepted, accepted as message-accepted}
 use Rattle.digest.specs.Call.{digestRefusal}
 
 module _ (width : ℕ) (bytes : List ℕ) (count room : ℕ) where
@@ -55,11 +51,6 @@ pub record Accepted (width : ℕ) (bytes : List ℕ) (count room : ℕ) : Type 0
   pub whole : MessageAccepted 0 bytes count
   pub enough : width / 8 ≤ room
 
-both-passed : (r s : ℕ) → first r s ≡ 0 → (r ≡ 0) × (s ≡ 0)
-unfolding first
-both-passed zero s e = (refl, e)
-both-passed (suc r) s e = absurd (omega arith)
-
 pub accepted : (width : ℕ) (bytes : List ℕ) (count room r : ℕ) → r ≡ digestRefusal width bytes count room → r ≡ 0 → Accepted width bytes count room
 unfolding digestRefusal
 accepted width bytes count room r same none =
@@ -71,27 +62,10 @@ accepted width bytes count room r same none =
       enough = leb-true (width / 8) room (passed (leb (width / 8) room) 0 5 (two .1) .0);
     }
 
-length-digest : (width : ℕ) → isWidth width ≡ true → (m : List ℕ) → length (digest width m) ≡ width / 8
-unfolding digest finalState final
-length-digest width known m =
-    let f = familyOf width in
-    let n = length m in
-    let words = length-compression f true (chain f (start width) m (messageBlocks f n)) (lengthBlock f n) in
-    omega (arith, length-take (width / 8) (bytesOf (finalState width m)), length-bytesOf (finalState width m), words, digest-room width known)
-
 module _ (width : ℕ) (bytes : List ℕ) (count room : ℕ) (a : Accepted width bytes count room) (fits : (i : ℕ) → getD bytes i 0 < 256) where
   -- The bytes of the message, as the code cuts them.
   abbrev used : List ℕ
   used = take ((count + 7) / 8 - 0) bytes
-
-  cut : used ≡ take ((count + 7) / 8) bytes
-  cut = ap (λ (n : ℕ). take n bytes) (sub-zero ((count + 7) / 8))
-
-  used-byte : (i : ℕ) → getD used i 0 < 256
-  used-byte i = elim (decLt i (length used)) [
-    | yes low ↦ omega (arith, getD-take ((count + 7) / 8 - 0) bytes i 0 (omega (arith, length-take ((count + 7) / 8 - 0) bytes)), fits i)
-    | no past ↦ omega (arith, List·getD-eq-default used 0 {n = i} (omega arith))
-  ]
 
   -- The state after the length block is the final state.
   finished : (state state′ : List ℕ) → state ≡ padded 32 (start width)
@@ -99,22 +73,14 @@ module _ (width : ℕ) (bytes : List ℕ) (count room : ℕ) (a : Accepted width
       (absorbed (familyOf width) (take (stateWords (familyOf width)) state) used ((length used + (blockBytes (familyOf width) - 1)) / blockBytes (familyOf width)))
       (lengthBlock (familyOf width) count))
       → state′ ≡ padded 32 (finalState width (message bytes count))
-  unfolding finalState final
+  unfolding finalState final message
   finished state state′ begun stated =
       let f = familyOf width in
-      let m = message bytes count in
-      let held = take ((count + 7) / 8) used in
-      let whole : held ≡ used = take-all ((count + 7) / 8) used (omega (arith, length-take ((count + 7) / 8 - 0) bytes)) in
       let first : take (stateWords f) state ≡ start width =
       ap (take (stateWords f)) begun ∙ take-padded 32 (stateWords f) (start width) (start-length width (a .known)) (words-within f) in
-      let blocks : absorbed f (start width) used ((length used + (blockBytes f - 1)) / blockBytes f) ≡ chain f (start width) m (messageBlocks f count) =
-      ap (λ (l : List ℕ). absorbed f (start width) l ((length l + (blockBytes f - 1)) / blockBytes f)) (sym whole)
-      ∙ concluded used count (ap (clear count) cut ∙ a .whole .clean) used-byte f (start width) (omega (arith, length-take ((count + 7) / 8 - 0) bytes, a .whole .within))
-      ∙ ap (λ (l : List ℕ). chain f (start width) l (messageBlocks f count)) (piece-bits bytes count (a .whole .within)) in
-      stated
-      ∙ ap (λ (s : List ℕ). padded 32 (compression f true (absorbed f s used ((length used + (blockBytes f - 1)) / blockBytes f)) (lengthBlock f count))) first
-      ∙ ap (λ (s : List ℕ). padded 32 (compression f true s (lengthBlock f count))) blocks
-      ∙ ap (λ (n : ℕ). padded 32 (compression f true (chain f (start width) m (messageBlocks f n)) (lengthBlock f n))) (sym (length-message bytes count (a .whole .within)))
+      closed bytes count (a .whole .within) (a .whole .clean) fits f (start width) (lengthBlock f count) count refl
+      (stated ∙ ap (λ (s : List ℕ). padded 32 (compression f true (absorbed f s used ((length used + (blockBytes f - 1)) / blockBytes f)) (lengthBlock f count))) first)
+      ∙ ap (λ (n : ℕ). padded 32 (compression f true (chain f (start width) (message bytes count) (messageBlocks f n)) (lengthBlock f n))) (sym (length-message bytes count (a .whole .within)))
 
   -- What is written.
   pub digest-written : (out state state′ front : List ℕ) → length out ≡ room → state ≡ padded 32 (start width)

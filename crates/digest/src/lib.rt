@@ -2,7 +2,7 @@
 ghost use mathlib.Core.Path.{_≡_};
 ghost use lib.ListN.{length};
 ghost use Rattle.simd.specs.Message.{message as messageOf};
-ghost use Rattle.simd.specs.Hash.{digest as digestOf};
+ghost use Rattle.simd.specs.Hash.{digest as digestOfMessage};
 ghost use Rattle.hash.specs.Open.{written};
 ghost use Rattle.digest.specs.Call.{digestRefusal};
 
@@ -27,7 +27,7 @@ fn refusal(width: u16, message: &[u8], count: usize, room: usize) -> u8
 pub fn digest(width: u16, message: &[u8], count: usize, out: &mut [u8]) -> u8
     ensures { λ r. ⌜ r ≡ digestRefusal width (now (message .entry)) count (length (now (out .entry))) ⌝ }
     ensures { λ r. ⌜ now (out .exit) ≡ written (digestRefusal width (now (message .entry)) count (length (now (out .entry))))
-        (digestOf width (messageOf (now (message .entry)) count)) (now (out .entry)) ⌝ }
+        (digestOfMessage width (messageOf (now (message .entry)) count)) (now (out .entry)) ⌝ }
 {
     let refused = refusal(width, message, count, out.len());
     if refused != 0 {

@@ -2,7 +2,7 @@
 use mathlib.Core.Bool.{true, false, cond}
 use mathlib.Core.List.{List, [], _++_}
 use mathlib.Core.Path.{_≡_, refl, sym, ap, _∙_}
-use Prim.Native.Nat.{ℕ, zero, suc, _+_, _*_, _-_, _/_, _%_, _^_, _<_, _≤_}
+use Prim.Native.Nat.{ℕ, zero, suc, _+_, _*_, _-_, _/_, _%_, _<_, _≤_}
 use native.Mathlib.Nat.{sub-zero}
 use native.Mathlib.Omega.{arith}
 use borrow.Author.Tests.{leb-true}
@@ -27,8 +27,9 @@ use Rattle.hash.specs.declared.Hash.{Hash}
 use Rattle.tail.proofs.Zeros.{padded-take}
 use Rattle.tail.proofs.Sizes.{words-within}
 use Rattle.tail.proofs.Parts.{back}
+use Rattle.tail.proofs.Closing.{front-bits}
 use Rattle.hash.proofs.Holding.{legal-width, legal-state, legal-tail, length-reached}
-use Rattle.hash.proofs.Feeding.{length-message, piece-bits}
+use Rattle.hash.proofs.Feeding.{length-message}
 use Rattle.hash.proofs.Refusing.{passed, accepted}
 use Rattle.hash.proofs.Digests.{digest-room, digest-length}
 
@@ -123,6 +124,11 @@ module _ (h : Hash) (piece : List ℕ) (count : ℕ) (a : Accepts h piece count)
         short = omega (arith, a .short);
       }
 
+  -- The bits of the bytes used are the piece's.
+  piece-bits : take count (bitsOf (take ((count + 7) / 8 - 0) piece)) ≡ message piece count
+  unfolding message
+  piece-bits = ap (λ (n : ℕ). take count (bitsOf (take n piece))) bytes-used ∙ front-bits piece count (a .within)
+
   pub feed-answered : (n r : ℕ) → n ≡ used h → r ≡ feedRefusal h piece count → r ≡ 0 → (state′ tail′ : List ℕ) (blocks : ℕ)
       → state′ ≡ padded 32 (chain (family h) (take (stateWords (family h)) (h .state)) (joinedBits n (h .tail) (take ((count + 7) / 8 - 0) piece) count) ((n + count) / blockBits (family h)))
       → tail′ ≡ table 128 (byteOf (drop (blockBits (family h) * ((n + count) / blockBits (family h))) (joinedBits n (h .tail) (take ((count + 7) / 8 - 0) piece) count)))
@@ -133,7 +139,7 @@ module _ (h : Hash) (piece : List ℕ) (count : ℕ) (a : Accepts h piece count)
       let f = family h in
       let size = length-message piece count (a .within) in
       let joined : joinedBits n (h .tail) (take ((count + 7) / 8 - 0) piece) count ≡ pending h ++ message piece count =
-      λ i. take (same i) (bitsOf (h .tail)) ++ piece-bits piece count (a .within) i in
+      λ i. take (same i) (bitsOf (h .tail)) ++ piece-bits i in
       let full : (n + count) / blockBits f ≡ (used h + length (message piece count)) / blockBits f = λ i. (same i + sym size i) / blockBits f in
       let total : h .bits + count ≡ h .bits + length (message piece count) = ap (λ (m : ℕ). h .bits + m) (sym size) in
       let state = stated ∙ λ i. padded 32 (chain f (reached h) (joined i) (full i)) in

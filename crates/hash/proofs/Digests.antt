@@ -8,7 +8,8 @@ use lib.ListN.{length, length-take}
 use mathlib.Core.List.{List}
 use Rattle.simd.specs.Basic.{familyOf, isWidth, stateWords, bytesOf}
 use Rattle.simd.specs.Message.{messageBlocks, lengthBlock}
-use Rattle.simd.specs.Hash.{chain}
+use Rattle.simd.specs.Constants.{start}
+use Rattle.simd.specs.Hash.{chain, final, finalState, digest}
 use Rattle.laws.proofs.LittleEndian.{length-bytesOf}
 use Rattle.laws.proofs.Chain.{length-compression}
 use Rattle.hash.specs.Open.{family, used, reached, pending, legal, finalOf, digestOf}
@@ -29,3 +30,12 @@ digest-length h good =
     let f = family h in
     let words = length-compression f true (chain f (reached h) (pending h) (messageBlocks f (used h))) (lengthBlock f (h .bits)) in
     omega (arith, length-take (h .width / 8) (bytesOf (finalOf h)), length-bytesOf (finalOf h), words, digest-room (h .width) (legal-width h good))
+
+-- And so is that of a message.
+pub length-digest : (width : ℕ) → isWidth width ≡ true → (m : List ℕ) → length (digest width m) ≡ width / 8
+unfolding digest finalState final
+length-digest width known m =
+    let f = familyOf width in
+    let n = length m in
+    let words = length-compression f true (chain f (start width) m (messageBlocks f n)) (lengthBlock f n) in
+    omega (arith, length-take (width / 8) (bytesOf (finalState width m)), length-bytesOf (finalState width m), words, digest-room width known)

@@ -3,21 +3,21 @@ use mathlib.Core.Bool.{Bool, true, false, _||_}
 use mathlib.Core.List.{List, [], _++_, append-assoc, append-nil}
 use mathlib.Core.Logic.{_⊎_, inl, inr, ⊎-elim}
 use mathlib.Core.Path.{_≡_, refl, sym, ap, _∙_, subst}
-use Prim.Native.Nat.{ℕ, _+_, _*_, _-_, _/_, _%_, _^_, _<_, _≤_}
+use Prim.Native.Nat.{ℕ, _+_, _*_, _-_, _/_, _%_, _<_, _≤_}
 use native.Mathlib.Nat.{add-zero, mul-zero}
 use native.Mathlib.Omega.{arith}
 use borrow.Author.Tests.{eqb-true, le-leb}
 use lib.Dec.{eqb, lit<}
 use native.Mathlib.Decide.{decLt}
 use lib.ListN.{length, getD, take, drop, length-take, length-drop, length-append, List·getD-eq-default}
-use lib.Seq.{drop-append-le, drop-drop, getD-take, ext-getD}
+use lib.Seq.{drop-append-le, drop-drop}
 use Rattle.simd.specs.Basic.{Family, small, large, familyOf, isWidth, blockBits, stateWords, table}
 use Rattle.simd.specs.Constants.{start, start224, start256, start384, start512}
 use Rattle.simd.specs.Message.{bitsOf, byteOf, message, messageBlocks, lengthBlock}
 use Rattle.simd.specs.Steps.{compression}
 use Rattle.simd.specs.Hash.{chain}
 use Rattle.laws.proofs.Table.{length-table, getD-table}
-use Rattle.laws.proofs.Bits.{Bits, byte-lt, bits-append, bits-drop, bits-bitsOf, bits-take, getD-bitsOf, length-bitsOf}
+use Rattle.laws.proofs.Bits.{Bits, byte-lt, bits-append, bits-drop, bits-bitsOf, bits-take, length-bitsOf}
 use Rattle.laws.proofs.Chain.{chain-add, chain-append, blocks-split}
 use Rattle.tail.proofs.Sizes.{chain-length}
 use Rattle.tail.specs.Zero.{clear, padded}
@@ -143,26 +143,6 @@ pub record Whole (piece : List ℕ) (count : ℕ) : Type 0 where
 pub length-message : (piece : List ℕ) (count : ℕ) → count ≤ 8 * length piece → length (message piece count) ≡ count
 unfolding message
 length-message piece count within = omega (arith, length-take count (bitsOf piece), length-bitsOf piece)
-
--- The bits of the bytes used are the piece's.
-pub piece-bits : (piece : List ℕ) (count : ℕ) → count ≤ 8 * length piece → take count (bitsOf (take ((count + 7) / 8 - 0) piece)) ≡ message piece count
-unfolding message
-piece-bits piece count within =
-    let n = (count + 7) / 8 - 0 in
-    let few = length-bitsOf (take n piece) in
-    let all = length-bitsOf piece in
-    let size : length (take count (bitsOf (take n piece))) ≡ length (take count (bitsOf piece)) =
-    omega (arith, within, length-take count (bitsOf (take n piece)), length-take count (bitsOf piece), few, all, length-take n piece) in
-    ext-getD 0 (take count (bitsOf (take n piece))) (take count (bitsOf piece)) size
-    (λ i below.
-    let inside : i < count = omega (arith, length-take count (bitsOf (take n piece))) in
-    let place : 8 * (i / 8) + i % 8 ≡ i = omega arith in
-    let left = rw place at (getD-bitsOf (take n piece) (i / 8) (i % 8) (omega arith)) in
-    let right = rw place at (getD-bitsOf piece (i / 8) (i % 8) (omega arith)) in
-    let byte = getD-take n piece (i / 8) 0 (omega arith) in
-    getD-take count (bitsOf (take n piece)) i 0 inside
-    ∙ left ∙ ap (λ (b : ℕ). b / 2 ^ (7 - i % 8) % 2) byte ∙ sym right
-    ∙ sym (getD-take count (bitsOf piece) i 0 inside))
 
 pub bits-message : (piece : List ℕ) (count : ℕ) → Bits (message piece count)
 unfolding message

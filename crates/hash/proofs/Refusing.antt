@@ -128,6 +128,11 @@ pub passed : (test : Bool) (x n : ℕ) → cond test x (suc n) ≡ 0 → (test �
 passed true x n e = (refl, e)
 passed false x n e = absurd (omega arith)
 
+pub both-passed : (r s : ℕ) → first r s ≡ 0 → (r ≡ 0) × (s ≡ 0)
+unfolding first
+both-passed zero s e = (refl, e)
+both-passed (suc r) s e = absurd (omega arith)
+
 pub record Accepted (n : ℕ) (piece : List ℕ) (count : ℕ) : Type 0 where
   pub within : count ≤ 8 * length piece
   pub clean : clear count (take ((count + 7) / 8) piece) ≡ true

@@ -6,18 +6,17 @@ use Prim.Native.Nat.{ℕ, zero, suc, _+_, _*_, _/_, _%_, _<_, _≤_}
 use native.Mathlib.Nat.{zero-add}
 use native.Mathlib.Omega.{arith}
 use borrow.Author.Tests.{le-leb}
-use lib.Dec.{eqb, eqb·suc-zero, lit≤}
+use lib.Dec.{eqb, eqb·suc-zero}
 use lib.ListN.{length, getD, take, drop, length-take, length-append, List·getD-eq-default}
 use lib.Seq.{take-all, getD-take, ext-getD}
 use native.Mathlib.Decide.{decLt}
-use Rattle.simd.specs.Basic.{Family, small, large, familyOf, isWidth, blockBits, stateWords, bytesOf, table}
+use Rattle.simd.specs.Basic.{Family, small, large, familyOf, isWidth, blockBits, bytesOf, table}
 use Rattle.simd.specs.Constants.{start}
 use Rattle.simd.specs.Message.{bitsOf, byteOf, message, messageBlocks, lengthBlock}
 use Rattle.simd.specs.Steps.{compression}
 use Rattle.simd.specs.Hash.{chain, final, finalState, digest, compressions}
 use Rattle.laws.proofs.Table.{length-table}
 use Rattle.laws.proofs.Bits.{Bits, bits-append, bitsOf-bytes, length-bitsOf}
-use Rattle.laws.proofs.Chain.{length-compression}
 use Rattle.tail.specs.Zero.{allZero, clear}
 use Rattle.hash.specs.Open.{limit, family, used, reached, pending, holding, legal, openRefusal, opened, openAnswer, fullBlocks, advanced, feedAnswer, finalOf, digestOf, takeRefusal, taken, takeAnswer, written}
 use Rattle.hash.specs.declared.Hash.{Hash}
@@ -25,8 +24,8 @@ use Rattle.hash.specs.declared.Opened.{Opened}
 use Rattle.hash.specs.declared.Fed.{Fed}
 use Rattle.hash.specs.Form.{formOf, hashOf, restoreRefusal, restoreAnswer}
 use Rattle.tail.proofs.Zeros.{clear-of}
-use Rattle.hash.proofs.Holding.{Sized, Value, held-state, held-tail, held-legal, legal-width}
-use Rattle.hash.proofs.Feeding.{Whole, held-sized, advanced-sized, advanced-bits, advanced-legal, advanced-append, advanced-none, blocks-append, none-full, fed-whole, length-message, bits-message, final-advanced, message-blocks, at-widths, start-length}
+use Rattle.hash.proofs.Holding.{Sized, Value, held-state, held-tail, held-legal}
+use Rattle.hash.proofs.Feeding.{Whole, held-sized, advanced-sized, advanced-bits, advanced-legal, advanced-append, advanced-none, blocks-append, none-full, fed-whole, length-message, bits-message, final-advanced, message-blocks, start-length}
 use Rattle.hash.proofs.Digests.{digest-length}
 use Rattle.hash.proofs.Storing.{form-hash, form-accepted, form-facts, read-legal, read-value, read-form}
 

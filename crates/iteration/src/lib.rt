@@ -1,5 +1,5 @@
-// The iteration over the blocks of a byte string (section 1.2): message blocks, the last one filled with zeros, and the length block. The
-// tables of the transform are made once a call, whatever the number of blocks.
+// The iteration over the blocks of a byte string (section 1.2): message blocks, the last one filled with zeros, and the length block. `absorb`
+// and `conclude` make the table of roots once, whatever the number of blocks; the functions below them are lent it.
 ghost use mathlib.Core.List.{_++_};
 ghost use mathlib.Core.Path.{_≡_};
 ghost use Prim.Native.Nat.{_+_, _≤_, min};

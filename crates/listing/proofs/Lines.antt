@@ -9,13 +9,13 @@ use lib.Dec.{T}
 use native.Mathlib.Decide.{decLe}
 use lib.ListN.{length, take, drop, length-append, length-drop}
 use lib.Seq.{take-at}
-use Rattle.simd.specs.Basic.{isWidth}
 use Rattle.simd.specs.Hash.{digest}
 use Rattle.text.specs.Text.{over, digestLine}
 use Rattle.text.proofs.Over.{length-over}
+use Rattle.hash.proofs.Digests.{length-digest}
 use Rattle.tape.specs.Run.{closed, Entry, Run, ended, first, runFrom, within, nextOf, firstOutput, output}
 use Rattle.tape.specs.declared.Next.the-variants.{Taken, Ended}
-use Rattle.tape.proofs.Entries.{First, none, some, run-first, length-digest, fits-64}
+use Rattle.tape.proofs.Entries.{First, none, some, run-first, fits-64}
 use Rattle.tape.proofs.Done.{within-ended, within-fits}
 use Rattle.listing.specs.Listing.{sealed, firstLine, linesBy, lines, lineBy, lineOf, textOf}
 use Rattle.listing.specs.Ending.{endText, endLine}

@@ -8,9 +8,9 @@ use lib.Dec.{eqb}
 use Rattle.simd.specs.Basic.{Family, familyOf, isWidth}
 use Rattle.simd.specs.Constants.{start}
 use Rattle.simd.specs.Message.{message}
-use Rattle.hash.specs.Open.{pieceRefusal}
+use Rattle.hash.specs.Open.{first, pieceRefusal}
 use Rattle.pairs.specs.Compared.{Found, found, compared}
-use Rattle.pairs.specs.Answer.{first, refusal, verdict, answer}
+use Rattle.pairs.specs.Answer.{refusal, verdict, answer}
 use Rattle.pairs.specs.declared.Verdict.{Verdict}
 use Rattle.pairs.specs.declared.Verdict.the-variants.{Refused}
 

@@ -4,25 +4,22 @@ use mathlib.Core.Path.{_≡_, sym, ap, _∙_}
 use Prim.Native.Nat.{ℕ, _+_, _*_, _-_, _/_, _%_, _^_}
 use native.Mathlib.Decide.{decLt}
 use native.Mathlib.Omega.{arith}
-use lib.ListN.{length, getD, take, length-take}
+use lib.ListN.{getD, take}
 use lib.Seq.{getD-take}
-use Rattle.simd.specs.Basic.{Family, small, large, blockBytes}
-use Rattle.simd.specs.Message.{bitsOf, message, block, messageBlocks}
+use Rattle.simd.specs.Basic.{Family, blockBytes}
+use Rattle.simd.specs.Message.{bitsOf, message, block}
 use Rattle.simd.specs.Hash.{chain}
-use Rattle.laws.proofs.Bits.{length-bitsOf, bit-at, bits-bitsOf, bits-take, getD-take-past, byte-ext}
+use Rattle.laws.proofs.Bits.{bit-at, bits-bitsOf, bits-take, getD-take-past, byte-ext}
 use Rattle.laws.proofs.Chain.{chain-ext}
 use Rattle.laws.proofs.Table.{table-ext}
+use Rattle.hash.proofs.Feeding.{length-message}
 use Rattle.pairs.proofs.MessageLaws.{IsMessage}
 use Rattle.pairs.proofs.RefusalLaws.{used, Accepted}
 
 module _ (bytes : List ℕ) (count : ℕ) (w : Accepted bytes count) where
-  pub length-message : length (message bytes count) ≡ count
-  unfolding message
-  length-message = omega (arith, length-take count (bitsOf bytes), length-bitsOf bytes, w .fits)
-
   pub is-message : IsMessage (message bytes count)
   unfolding message
-  is-message = record { bits = bits-take count (bitsOf bytes) (bits-bitsOf bytes); short = omega (arith, length-message, w .short) }
+  is-message = record { bits = bits-take count (bitsOf bytes) (bits-bitsOf bytes); short = omega (arith, length-message bytes count (w .fits), w .short) }
 
   -- The bits of the message are those of the bytes used, zeros past the end of either.
   pub same-bits : (i : ℕ) → getD (message bytes count) i 0 ≡ getD (bitsOf (take (used count) bytes)) i 0
@@ -34,12 +31,6 @@ module _ (bytes : List ℕ) (count : ℕ) (w : Accepted bytes count) where
         ∙ sym (bit-at (take (used count) bytes) i ∙ ap (λ (b : ℕ). b / 2 ^ (7 - i % 8) % 2) byte)
     | no past ↦ getD-take-past count (bitsOf bytes) i (omega arith) ∙ sym (w .clear i (omega arith))
   ]
-
--- The blocks of the bytes used are those of the message.
-pub used-blocks : (f : Family) (count l : ℕ) → l ≡ used count → (l + (blockBytes f - 1)) / blockBytes f ≡ messageBlocks f count
-unfolding messageBlocks
-used-blocks small count l e = omega arith
-used-blocks large count l e = omega arith
 
 -- Messages with the same bits, zeros past the end included, have the same blocks and states.
 module _ (m n : List ℕ) (same : (i : ℕ) → getD m i 0 ≡ getD n i 0) where

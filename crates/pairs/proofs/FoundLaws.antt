@@ -14,7 +14,8 @@ use Rattle.hash.specs.Open.{pieceRefusal}
 use Rattle.pairs.specs.Lists.{equal, least}
 use Rattle.pairs.specs.Pairs.{stateAt, blockAt, differAt}
 use Rattle.pairs.specs.Compared.{Found, same, apart, meet, common, found}
-use Rattle.pairs.specs.Answer.{first, refusal, verdict}
+use Rattle.hash.proofs.Refusing.{passed, both-passed}
+use Rattle.pairs.specs.Answer.{refusal, verdict}
 use Rattle.pairs.specs.declared.Verdict.the-variants.{Same, Apart, Meet}
 use Rattle.pairs.proofs.ListLaws.{equal-true, same-equal, equal-false, not-equal, least-is}
 use Rattle.pairs.proofs.MessageLaws.{IsMessage}
@@ -147,16 +148,7 @@ verdict-meet apart k e = absurd (let z : _≡_ {A = ℕ} 0 1 = cc in omega arith
 verdict-meet (meet j) k e = ap meet (cc)
 
 -- Where nothing is refused, neither message is.
-first-zero : (r s : ℕ) → first r s ≡ 0 → (r ≡ 0) × (s ≡ 0)
-unfolding first
-first-zero zero s e = (refl, e)
-first-zero (suc r) s e = absurd (omega arith)
-
-unrefused-width : (t : Bool) (s : ℕ) → cond t s 1 ≡ 0 → s ≡ 0
-unrefused-width true s e = e
-unrefused-width false s e = absurd (omega arith)
-
 pub unrefused : (width : ℕ) (a : List ℕ) (na : ℕ) (b : List ℕ) (nb : ℕ) → refusal width a na b nb ≡ 0
     → (pieceRefusal 0 a na ≡ 0) × (pieceRefusal 0 b nb ≡ 0)
 unfolding refusal
-unrefused width a na b nb e = first-zero (pieceRefusal 0 a na) (pieceRefusal 0 b nb) (unrefused-width (isWidth width) _ e)
+unrefused width a na b nb e = both-passed (pieceRefusal 0 a na) (pieceRefusal 0 b nb) (passed (isWidth width) _ 0 e .1)

@@ -82,14 +82,6 @@ least-is p zero n =
     record { from = omega arith; within = omega arith; hit = λ high. absurd (omega arith); below = λ i low high. absurd (omega arith) }
 least-is p (suc k) n = least-step p k n (least p k (suc n)) (p n) refl (least-is p k (suc n))
 
--- Where p is true at one of the numbers searched, the least is one of them.
-pub least-found : (p : ℕ → Bool) (k n i : ℕ) → n ≤ i → i < n + k → p i ≡ true → least p k n < n + k
-least-found p k n i low high e = go (decLt (least p k n) (n + k))
-  where
-    go : Dec (least p k n < n + k) → least p k n < n + k
-    go (yes h) = h
-    go (no h) = absurd (true≢false (sym e ∙ least-is p k n .below i low (omega (arith, h))))
-
 -- Where p is false at all of them, it is the number after them.
 pub least-none : (p : ℕ → Bool) (k n : ℕ) → ((i : ℕ) → n ≤ i → i < n + k → p i ≡ false) → least p k n ≡ n + k
 least-none p k n h = go (decLt (least p k n) (n + k))

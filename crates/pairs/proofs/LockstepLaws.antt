@@ -22,7 +22,8 @@ use Rattle.pairs.specs.Lockstep.{Both, Turn, Passed, unlikeAt, withLengt
 use Rattle.pairs.specs.declared.Verdict.the-variants.{Same, Apart, Meet}
 use Rattle.pairs.proofs.ListLaws.{same-equal, not-equal, decide, least-is, least-ext, least-none}
 use Rattle.pairs.proofs.MessageLaws.{length-ext}
-use Rattle.pairs.proofs.ByteLaws.{length-message, is-message, same-bits, same-blocks, same-chain}
+use Rattle.hash.proofs.Feeding.{length-message}
+use Rattle.pairs.proofs.ByteLaws.{is-message, same-bits, same-blocks, same-chain}
 use Rattle.pairs.proofs.RefusalLaws.{Accepted, used}
 use Rattle.pairs.proofs.PairLaws.{alike, none-differ}
 use Rattle.pairs.proofs.FoundLaws.{number-found}
@@ -161,14 +162,14 @@ module _ (f : Family) (from a : List ℕ) (m : ℕ) (wa : Accepted a m) where
   state-at : (i : ℕ) → chain f from (bitsOf (take (used m) a)) (messageBlocks f m - i) ≡ stateAt f from (message a m) i
   unfolding stateAt
   state-at i =
-      rw (length-message a m wa)
+      rw (length-message a m (wa .fits))
       (sym (same-chain (message a m) (bitsOf (take (used m) a)) (same-bits a m wa) f from (messageBlocks f m - i)))
 
   block-at : (i : ℕ) → 1 ≤ i → block f (bitsOf (take (used m) a)) (messageBlocks f m - i) ≡ blockAt f (message a m) i
   unfolding blockAt
   block-at zero low = absurd (omega arith)
   block-at (suc i) low =
-      rw (length-message a m wa)
+      rw (length-message a m (wa .fits))
       (sym (same-blocks (message a m) (bitsOf (take (used m) a)) (same-bits a m wa) f (messageBlocks f m - suc i)))
 
   state-end : (s : List ℕ) (k : ℕ) → k ≤ messageBlocks f m → s ≡ chain f from (bitsOf (take (used m) a)) (messageBlocks f m - k + k)
@@ -181,7 +182,7 @@ module _ (f : Family) (from a : List ℕ) (m : ℕ) (wa : Accepted a m) where
   unfolding final stateAt
   final-state s e =
       let all : messageBlocks f (length (message a m)) - 0 ≡ messageBlocks f (length (message a m)) = omega arith in
-      let size = length-message a m wa in
+      let size = length-message a m (wa .fits) in
       ap (λ (x : List ℕ). compression f true x (lengthBlock f m)) (e ∙ ap (chain f from (message a m)) all) ∙ ap (λ (l : ℕ). compression f true (chain f from (message a m) (messageBlocks f (length (message a m)))) (lengthBlock f l)) (sym size)
 
 module _ (f : Family) (from a : List ℕ) (m : ℕ) (b : List ℕ) (n : ℕ) (wa : Accepted a m) (wb : Accepted b n) where
@@ -193,7 +194,7 @@ module _ (f : Family) (from a : List ℕ) (m : ℕ) (b : List ℕ) (n : ℕ) (wa
 
   common-numbers : common f (message a m) (message b n) ≡ suc k
   unfolding common compressions
-  common-numbers = rw (length-message a m wa, length-message b n wb) (omega arith)
+  common-numbers = rw (length-message a m (wa .fits), length-message b n (wb .fits)) (omega arith)
 
   -- At the message blocks.
   differ-at : (i : ℕ) → 1 ≤ i
@@ -206,7 +207,7 @@ module _ (f : Family) (from a : List ℕ) (m : ℕ) (b : List ℕ) (n : ℕ) (wa
       → not (equal s t && eqb m n) ≡ differ 0
   unfolding differAt unlike blockAt
   differ-length s t e h =
-      rw (← e, ← h, length-message a m wa, length-message b n wb, length-test f m n (wa .short) (wb .short) (ℕ-discrete m n))
+      rw (← e, ← h, length-message a m (wa .fits), length-message b n (wb .fits), length-test f m n (wa .short) (wb .short) (ℕ-discrete m n))
 
   module _ (s t : List ℕ) (met : ℕ)
       (p : Passed f from (take (used m) a) (messageBlocks f m) from (take (used n) b) (messageBlocks f n) k k s t met) where

@@ -4,17 +4,13 @@ use mathlib.Core.List.{List}
 use Prim.Native.Nat.{ℕ, zero, suc}
 use Rattle.simd.specs.Basic.{isWidth}
 use Rattle.simd.specs.Message.{message}
-use Rattle.hash.specs.Open.{pieceRefusal}
+use Rattle.hash.specs.Open.{first, pieceRefusal}
 use Rattle.pairs.specs.Compared.{Found, same, apart, meet, compared}
 use Rattle.pairs.specs.declared.Verdict.{Verdict}
 use Rattle.pairs.specs.declared.Verdict.the-variants.{Same, Apart, Meet, Refused}
 
 -- The refusal of a comparison: 1 where the width is none of the four, then the first message's, then the second's. A message is refused as a
 -- piece with no bits before it.
-unfoldable pub first : ℕ → ℕ → ℕ
-first zero r = r
-first (suc n) r = suc n
-
 unfoldable pub refusal : ℕ → List ℕ → ℕ → List ℕ → ℕ → ℕ
 refusal width a na b nb = cond (isWidth width) (first (pieceRefusal 0 a na) (pieceRefusal 0 b nb)) 1
 

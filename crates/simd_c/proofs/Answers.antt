@@ -8,7 +8,7 @@ use Rattle.hash.specs.declared.Hash.{Hash}
 use Rattle.hash.specs.declared.Opened.{Opened}
 use Rattle.hash.specs.declared.Fed.{Fed}
 use Rattle.hash.specs.declared.Taken.{Taken}
-use Rattle.hash.proofs.Refusing.{first-refused, first-accepted, written-refused, written-accepted}
+use Rattle.hash.proofs.Refusing.{first-refused, first-accepted, written-refused}
 use Rattle.simd_c.specs.Calls.{stored, openedHash, openCall, fedFrom, feedCall, takeCall}
 use Rattle.simd_c.proofs.Laws.{stored-refused, stored-accepted}
 

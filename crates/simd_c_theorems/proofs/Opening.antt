@@ -11,7 +11,7 @@ use Rattle.simd.specs.Constants.{start}
 use Rattle.laws.proofs.Bits.{Bits}
 use Rattle.tail.proofs.Sizes.{words-within}
 use Rattle.tail.proofs.Zeros.{getD-padded}
-use Rattle.hash.specs.Open.{holding, legal, opened, openAnswer}
+use Rattle.hash.specs.Open.{holding, legal, openAnswer}
 use Rattle.hash.specs.declared.Opened.{Opened}
 use Rattle.hash.proofs.Holding.{Value, held-legal}
 use Rattle.hash.proofs.Feeding.{held-sized, at-widths, start-length}

@@ -1,5 +1,5 @@
 // The words of a byte string, and the bytes of a string of words.
-use compression::block::word;
+use compression::bytes::word;
 ghost use mathlib.Core.List.{_++_};
 ghost use mathlib.Core.Path.{_≡_};
 ghost use Prim.Native.Nat.{_*_, _/_, _%_, _^_, _<_, _≤_};

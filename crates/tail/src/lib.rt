@@ -1,4 +1,4 @@
-// What the open hash puts together from bytes: bits of a piece behind a tail that may end within a byte, full blocks compressed on the way.
+// Bits of a piece put behind a tail that may end within a byte, full blocks compressed on the way, and the end of a message.
 // Whole bytes are shifted, never single bits. A source that needs no shift is compressed where it lies; another goes through a buffer of
 // several blocks. The small family's state stands in the first 16 of 32 words.
 

@@ -13,10 +13,11 @@ use Rattle.simd.specs.Basic.{isWidth}
 use Rattle.simd.specs.Hash.{digest}
 use Rattle.text.specs.Text.{over}
 use Rattle.text.proofs.Over.{over-nil, over-over, over-part}
+use Rattle.hash.proofs.Digests.{length-digest}
 use Rattle.tape.specs.Run.{closed, Entry, Run, ended, first, runFrom, fit, within, output, ranOf, nextBy, nextOf, firstOutput}
 use Rattle.tape.specs.Standing.{closeOf}
 use Rattle.tape.specs.declared.Next.the-variants.{Taken, Ended}
-use Rattle.tape.proofs.Entries.{First, none, some, run-first, length-digest}
+use Rattle.tape.proofs.Entries.{First, none, some, run-first}
 
 -- The first TAKE of a run with so much room.
 pub record Took (tape : List ℕ) (at room : ℕ) (run : Run) (width next : ℕ) : Type 0 where

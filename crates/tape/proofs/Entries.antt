@@ -5,17 +5,12 @@ use mathlib.Core.Path.{_≡_, refl, ap, _∙_}
 use Prim.Native.Nat.{ℕ, zero, suc, _+_, _/_, _≤_, _<_}
 use native.Mathlib.Omega.{arith}
 use lib.Dec.{leb, lit≤}
-use lib.ListN.{length, length-take}
-use Rattle.simd.specs.Basic.{familyOf, isWidth, bytesOf}
-use Rattle.simd.specs.Constants.{start}
-use Rattle.simd.specs.Message.{bitsOf, message, messageBlocks, lengthBlock}
-use Rattle.simd.specs.Hash.{chain, final, finalState, digest}
-use Rattle.laws.proofs.Chain.{length-compression}
+use lib.ListN.{length}
+use Rattle.simd.specs.Basic.{isWidth}
+use Rattle.simd.specs.Message.{bitsOf, message}
 use Rattle.tail.specs.Zero.{clear}
 use Rattle.hash.specs.Open.{limit}
 use Rattle.hash.proofs.Feeding.{at-widths}
-use Rattle.laws.proofs.LittleEndian.{length-bytesOf}
-use Rattle.hash.proofs.Digests.{digest-room}
 use Rattle.reader.specs.declared.Command.{Command}
 use Rattle.reader.specs.declared.Command.the-variants.{Open, Full, Part, Take, Stop}
 use Rattle.reader.specs.declared.Reading.{Reading}
@@ -24,14 +19,6 @@ use Rattle.reader.specs.Reading.{readAt}
 use Rattle.reader.proofs.Laws.{sizeOf, read-next, read-size}
 use Rattle.tape.specs.Run.{Hashing, closed, opened, Effect, goes, takes, stops, refuses, effect, feeding, piece, Entry, Run, ended, first, follow, after, runFor, runFrom}
 use Rattle.tape.proofs.Runs.{enough}
-
--- A digest has width / 8 bytes.
-pub length-digest : (width : ℕ) → isWidth width ≡ true → (m : List ℕ) → length (digest width m) ≡ width / 8
-unfolding digest finalState final
-length-digest width known m =
-    let f = familyOf width in
-    let words = length-compression f true (chain f (start width) m (messageBlocks f (length m))) (lengthBlock f (length m)) in
-    omega (arith, length-take (width / 8) (bytesOf (finalState width m)), length-bytesOf (finalState width m), words, digest-room width known)
 
 -- Any digest fits 64 bytes.
 pub fits-64 : (width : ℕ) → isWidth width ≡ true → (width / 8 ≤ 64) × (4 ≤ width / 8)

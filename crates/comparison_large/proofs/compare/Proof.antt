@@ -2,7 +2,7 @@ use mathlib.Core.Path.{_∙_}
 use native.Mathlib.Omega.{arith}
 use borrow.Author.Needs.{needs}
 use Rattle.simd.specs.Basic.{large}
-use Rattle.pairs.proofs.ByteLaws.{used-blocks}
+use Rattle.tail.proofs.Closing.{byte-blocks}
 use Rattle.pairs.proofs.RefusalLaws.{accepted}
 use Rattle.pairs.proofs.LockstepLaws.{decided}
 use Rattle.comparison_large.proofs.compare.Statement.{statement}
@@ -69,7 +69,7 @@ returns c =
     c .judge .ensures
     ∙ decided large _ _ _ _ _ (accepted _ _ (start .pre .0)) (accepted _ _ (start .pre .1)) _ _ _ _ _
     (first .used-part .ensures .0) (second .used-part2 .ensures .0)
-    (used-blocks large _ _ (first .used-part .ensures .1)) (used-blocks large _ _ (second .used-part2 .ensures .1))
+    (byte-blocks large _ _ (first .used-part .ensures .1)) (byte-blocks large _ _ (second .used-part2 .ensures .1))
     (counted .smaller .ensures) _ _ _
     (together .lockstep .ensures _ _ (first-ahead .compress-blocks .ensures) (second-ahead .compress-blocks2 .ensures))
 

@@ -2,8 +2,9 @@ use native.Mathlib.Omega.{arith}
 use lib.ListN.{take}
 use Rattle.simd.specs.Basic.{familyOf, blockBits, stateWords}
 use Rattle.simd.specs.Message.{lengthBlock}
-use Prim.Native.Nat.{_%_}
+use Prim.Native.Nat.{_+_, _/_, _%_}
 use Rattle.tail.proofs.Sizes.{used-within}
+use Rattle.tail.proofs.Zeros.{clear-take}
 use Rattle.tail.proofs.Closing.{closed, one-compression, two-compressions}
 use borrow.Author.Needs.{needs}
 use Rattle.tail.proofs.close.Statement.{statement}
@@ -37,9 +38,11 @@ returns c =
     let s = known .before in
     let a = s .args in
     let f = familyOf (a .width) in
+    let n = a .bits % blockBits f in
     let used = c .before .before .before .before .used-bits in (
-      closed (a .tail .now) (a .bits % blockBits f) (s .pre .2) (λ i. known .shared-slice-known .given i .fits) f (take (stateWords f) (a .state .now))
-          (lengthBlock f (a .bits)) (used .result) (used .ensures) (omega (arith, s .pre .1, used-within f (a .bits))) (c .before .conclude .ensures),
+      closed (a .tail .now) n (omega (arith, s .pre .1, used-within f (a .bits))) (clear-take ((n + 7) / 8) n (a .tail .now) (s .pre .2))
+          (λ i. known .shared-slice-known .given i .fits) f (take (stateWords f) (a .state .now)) (lengthBlock f (a .bits)) (used .result) (used .ensures)
+          (c .before .conclude .ensures),
       one-compression f (a .bits) (used .result) (used .ensures) (c .if1 .taken),
     )
 
@@ -49,9 +52,11 @@ returns-2 c =
     let s = known .before in
     let a = s .args in
     let f = familyOf (a .width) in
+    let n = a .bits % blockBits f in
     let used = c .before .before .before .before .used-bits in (
-      closed (a .tail .now) (a .bits % blockBits f) (s .pre .2) (λ i. known .shared-slice-known .given i .fits) f (take (stateWords f) (a .state .now))
-          (lengthBlock f (a .bits)) (used .result) (used .ensures) (omega (arith, s .pre .1, used-within f (a .bits))) (c .before .conclude .ensures),
+      closed (a .tail .now) n (omega (arith, s .pre .1, used-within f (a .bits))) (clear-take ((n + 7) / 8) n (a .tail .now) (s .pre .2))
+          (λ i. known .shared-slice-known .given i .fits) f (take (stateWords f) (a .state .now)) (lengthBlock f (a .bits)) (used .result) (used .ensures)
+          (c .before .conclude .ensures),
       two-compressions f (a .bits) (used .result) (used .ensures) (c .if1 .left),
     )
 

@@ -5,8 +5,6 @@ use Prim.Native.Nat.{ℕ, _+_, _/_}
 use borrow.Author.Needs.{needs}
 use borrow.Author.Tests.{le-leb, lt-leb}
 use lib.ListN.{length}
-use lib.Seq.{take-all}
-use native.Mathlib.Omega.{arith}
 use Rattle.simd.specs.Basic.{small, large}
 use Rattle.simd.specs.Message.{lengthBlock}
 use Rattle.simd.specs.Steps.{compression}

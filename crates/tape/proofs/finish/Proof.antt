@@ -1,8 +1,8 @@
 -- `tape::finish` meets its contract.
-use mathlib.Core.Path.{sym, ap, _∙_}
+use mathlib.Core.Path.{sym}
 use mathlib.Core.List.{_++_}
 use native.Mathlib.Omega.{arith}
-use lib.ListN.{length, take, drop, length-append, length-drop}
+use lib.ListN.{take, drop, length-append, length-drop}
 use lib.Seq.{length-take-le}
 use Rattle.tape.proofs.Steps.{finish-none, finish-some}
 use borrow.Author.Needs.{needs}

@@ -5,8 +5,8 @@ use native.Mathlib.Omega.{arith}
 use lib.ListN.{getD}
 use Rattle.simd.specs.Basic.{wordAt, sum}
 use borrow.Author.Needs.{needs}
-use Rattle.compression.proofs.block.word.Statement.{statement}
-use Rattle.compression.proofs.block.word.Tie as tie
+use Rattle.compression.proofs.bytes.word.Statement.{statement}
+use Rattle.compression.proofs.bytes.word.Tie as tie
 
 mul-k : tie.Need-mul-k
 mul-k c = search needs
