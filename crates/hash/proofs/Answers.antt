@@ -17,10 +17,10 @@ use Rattle.simd.specs.Steps.{compression}
 use Rattle.simd.specs.Hash.{chain, compressions}
 use Rattle.laws.proofs.Chain.{length-compression}
 use Rattle.laws.proofs.LittleEndian.{length-bytesOf}
-use Rattle.tail.specs.Zero.{clear, padded}
+use Rattle.tail.specs.Zero.{padded}
 use Rattle.form.specs.Numbers.{littleEndian, formWidth, formBits}
 use Rattle.form.proofs.Writing.{state-bytes}
-use Rattle.hash.specs.Open.{limit, family, used, reached, pending, holding, legal, openRefusal, opened, openAnswer, fullBlocks, advanced, pieceRefusal, feedRefusal, fed, feedAnswer, finalOf, digestOf, takeRefusal, taken, takeAnswer, written}
+use Rattle.hash.specs.Open.{family, used, reached, pending, holding, legal, openRefusal, opened, openAnswer, fullBlocks, advanced, pieceRefusal, feedRefusal, fed, feedAnswer, finalOf, digestOf, takeRefusal, taken, takeAnswer, written}
 use Rattle.hash.specs.Form.{formBytes, formOf, formFamily, hashOf, storeRefusal, storeAnswer, restoreRefusal, restoreAnswer}
 use Rattle.tail.specs.Shift.{Ready, joinedBits}
 use Rattle.hash.specs.declared.Hash.{Hash}
@@ -30,7 +30,7 @@ use Rattle.tail.proofs.Parts.{back}
 use Rattle.tail.proofs.Closing.{front-bits}
 use Rattle.hash.proofs.Holding.{legal-width, legal-state, legal-tail, length-reached}
 use Rattle.hash.proofs.Feeding.{length-message}
-use Rattle.hash.proofs.Refusing.{passed, accepted}
+use Rattle.hash.proofs.Refusing.{passed, Accepted, accepted, written-refused}
 use Rattle.hash.proofs.Digests.{digest-room, digest-length}
 
 -- Refusals.
@@ -49,22 +49,17 @@ unfolding taken
 taken-refused zero h some = absurd (some refl)
 taken-refused (suc r) h some = refl
 
-unwritten : (r : ℕ) (bytes out : List ℕ) → (r ≡ 0 → ⊥) → out ≡ written r bytes out
-unfolding written
-unwritten zero bytes out some = absurd (some refl)
-unwritten (suc r) bytes out some = refl
-
 pub take-refused : (h : Hash) (out : List ℕ) (r : ℕ) → r ≡ takeRefusal h out → (r ≡ 0 → ⊥)
     → (record { hash = h; blocks = 0; refusal = r } ≡ takeAnswer h out) × (out ≡ written (takeRefusal h out) (digestOf h) out)
 unfolding takeAnswer
 take-refused h out r same some =
-    (taken-refused r h some ∙ ap (λ (r : ℕ). taken r h) same, unwritten r (digestOf h) out some ∙ ap (λ (r : ℕ). written r (digestOf h) out) same)
+    (taken-refused r h some ∙ ap (λ (r : ℕ). taken r h) same, sym (written-refused r (digestOf h) out some) ∙ ap (λ (r : ℕ). written r (digestOf h) out) same)
 
 pub store-refused : (h : Hash) (out : List ℕ) (r : ℕ) → r ≡ storeRefusal h out → (r ≡ 0 → ⊥)
     → (record { hash = h; refusal = r } ≡ storeAnswer h out) × (out ≡ written (storeRefusal h out) (formOf h) out)
 unfolding storeAnswer
 store-refused h out r same some =
-    (λ i. record { hash = h; refusal = same i }, unwritten r (formOf h) out some ∙ ap (λ (r : ℕ). written r (formOf h) out) same)
+    (λ i. record { hash = h; refusal = same i }, sym (written-refused r (formOf h) out some) ∙ ap (λ (r : ℕ). written r (formOf h) out) same)
 
 opened-refused : (r : ℕ) (h : Hash) → (r ≡ 0 → ⊥) → record { hash = holding 0 0 [] []; refusal = r } ≡ opened r h
 unfolding opened
@@ -91,16 +86,13 @@ open-answered width state tail started blank known =
 -- Fed. What an accepted piece fulfils.
 pub record Accepts (h : Hash) (piece : List ℕ) (count : ℕ) : Type 0 where
   pub good : legal h ≡ true
-  pub within : count ≤ 8 * length piece
-  pub clean : clear count (take ((count + 7) / 8) piece) ≡ true
-  pub short : h .bits + count ≤ limit
+  pub whole : Accepted (h .bits) piece count
 
 pub feed-facts : (h : Hash) (piece : List ℕ) (count r : ℕ) → r ≡ feedRefusal h piece count → r ≡ 0 → Accepts h piece count
 unfolding feedRefusal
 feed-facts h piece count r same none =
     let first = passed (legal h) (pieceRefusal (h .bits) piece count) 4 (sym same ∙ none) in
-    let piece-is = accepted (h .bits) piece count (first .1) in
-    record { good = first .0; within = piece-is .within; clean = piece-is .clean; short = piece-is .short }
+    record { good = first .0; whole = accepted (h .bits) piece count (first .1) }
 
 used-below : (f : Family) (n : ℕ) → n % blockBits f < blockBits f
 used-below small n = omega arith
@@ -119,15 +111,15 @@ module _ (h : Hash) (piece : List ℕ) (count : ℕ) (a : Accepts h piece count)
         below = rw same (used-below (family h) (h .bits));
         state-clear = legal-state h (a .good);
         tail-clear = rw same (legal-tail h (a .good));
-        source = omega (arith, length-take ((count + 7) / 8 - 0) piece, a .within);
-        source-clear = rw bytes-used (a .clean);
-        short = omega (arith, a .short);
+        source = omega (arith, length-take ((count + 7) / 8 - 0) piece, a .whole .within);
+        source-clear = rw bytes-used (a .whole .clean);
+        short = omega (arith, a .whole .short);
       }
 
   -- The bits of the bytes used are the piece's.
   piece-bits : take count (bitsOf (take ((count + 7) / 8 - 0) piece)) ≡ message piece count
   unfolding message
-  piece-bits = ap (λ (n : ℕ). take count (bitsOf (take n piece))) bytes-used ∙ front-bits piece count (a .within)
+  piece-bits = ap (λ (n : ℕ). take count (bitsOf (take n piece))) bytes-used ∙ front-bits piece count (a .whole .within)
 
   pub feed-answered : (n r : ℕ) → n ≡ used h → r ≡ feedRefusal h piece count → r ≡ 0 → (state′ tail′ : List ℕ) (blocks : ℕ)
       → state′ ≡ padded 32 (chain (family h) (take (stateWords (family h)) (h .state)) (joinedBits n (h .tail) (take ((count + 7) / 8 - 0) piece) count) ((n + count) / blockBits (family h)))
@@ -137,7 +129,7 @@ module _ (h : Hash) (piece : List ℕ) (count : ℕ) (a : Accepts h piece count)
   unfolding feedAnswer fed advanced fullBlocks holding reached pending joinedBits
   feed-answered n r same refuses none state′ tail′ blocks stated left counted =
       let f = family h in
-      let size = length-message piece count (a .within) in
+      let size = length-message piece count (a .whole .within) in
       let joined : joinedBits n (h .tail) (take ((count + 7) / 8 - 0) piece) count ≡ pending h ++ message piece count =
       λ i. take (same i) (bitsOf (h .tail)) ++ piece-bits i in
       let full : (n + count) / blockBits f ≡ (used h + length (message piece count)) / blockBits f = λ i. (same i + sym size i) / blockBits f in

@@ -148,15 +148,15 @@ pub bits-message : (piece : List ℕ) (count : ℕ) → Bits (message piece coun
 unfolding message
 bits-message piece count = bits-take count (bitsOf piece) (bits-bitsOf piece)
 
-pub accepted : (h : Hash) (piece : List ℕ) (count : ℕ) → legal h ≡ true → Whole piece count → h .bits + count ≤ limit → feedRefusal h piece count ≡ 0
+unrefused : (h : Hash) (piece : List ℕ) (count : ℕ) → legal h ≡ true → Whole piece count → h .bits + count ≤ limit → feedRefusal h piece count ≡ 0
 unfolding feedRefusal pieceRefusal
-accepted h piece count good whole short =
+unrefused h piece count good whole short =
     rw (good, le-leb count (8 * length piece) (whole .within), whole .clean, le-leb (h .bits + count) limit short)
 
 pub fed-whole : (h : Hash) (piece : List ℕ) (count : ℕ) → legal h ≡ true → Whole piece count → h .bits + count ≤ limit
     → feedAnswer h piece count ≡ record { hash = advanced h (message piece count); blocks = fullBlocks h (length (message piece count)); refusal = 0 }
 unfolding feedAnswer fed
-fed-whole h piece count good whole short = rw (accepted h piece count good whole short)
+fed-whole h piece count good whole short = rw (unrefused h piece count good whole short)
 
 -- Feeding no bits.
 pub advanced-none : (h : Hash) → Sized h → legal h ≡ true → advanced h [] ≡ h

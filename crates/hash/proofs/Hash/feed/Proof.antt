@@ -23,7 +23,7 @@ add-bytes : tie.Need-add-bytes
 add-bytes c =
     let s = c .before .before .before .before .before in
     let facts = feed-facts (s .args .self) (s .args .piece .now) (s .args .count) (c .before .before .before .feed-refusal .result) (c .before .before .before .feed-refusal .ensures) (c .before .before .if1 .left) in
-    omega (arith, facts .short)
+    omega (arith, facts .whole .short)
 
 used-bits-requires : tie.Need-used-bits-requires
 used-bits-requires c κs = search needs
@@ -41,7 +41,7 @@ part-advance-end : tie.Need-part-advance-end
 part-advance-end c =
     let s = c .before .before .before .before .before .before .before .before in
     let facts = feed-facts (s .args .self) (s .args .piece .now) (s .args .count) (c .before .before .before .before .before .before .feed-refusal .result) (c .before .before .before .before .before .before .feed-refusal .ensures) (c .before .before .before .before .before .if1 .left) in
-    omega (arith, facts .within)
+    omega (arith, facts .whole .within)
 
 advance-requires : tie.Need-advance-requires
 advance-requires c κs =
@@ -57,13 +57,13 @@ add-self : tie.Need-add-self
 add-self c =
     let s = c .before .before .before .before .before .before .before .before .before .before .before in
     let facts = feed-facts (s .args .self) (s .args .piece .now) (s .args .count) (c .before .before .before .before .before .before .before .before .before .feed-refusal .result) (c .before .before .before .before .before .before .before .before .before .feed-refusal .ensures) (c .before .before .before .before .before .before .before .before .if1 .left) in
-    omega (arith, facts .short)
+    omega (arith, facts .whole .short)
 
 cast-self-2 : tie.Need-cast-self-2
 cast-self-2 c =
     let s = c .before .before .before .before .before .before .before .before .before .before .before in
     let facts = feed-facts (s .args .self) (s .args .piece .now) (s .args .count) (c .before .before .before .before .before .before .before .before .before .feed-refusal .result) (c .before .before .before .before .before .before .before .before .before .feed-refusal .ensures) (c .before .before .before .before .before .before .before .before .if1 .left) in
-    omega (arith, facts .short)
+    omega (arith, facts .whole .short)
 
 returns-2 : tie.Need-returns-2
 returns-2 c =
