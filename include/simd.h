@@ -1,11 +1,20 @@
 /* simd.h - SIMD v1.1: digests of bit strings, comparison, sealing tape
 
-   Link with libsimd_c.a (x86-64).  C99 and C++.
+   C99 and C++11, on x86-64.  Link with -lsimd, or with libsimd.a by its path.
 
    WIDTHS AND FAMILIES
      A width is 224, 256, 384 or 512, the bits of the digest.  Widths 224 and
      256 are the small family, 384 and 512 the large one.  The sizes below
      follow from the width.
+     The parameter has 16 bits.  C cuts a larger number before the call sees it:
+     65,792 arrives as 256 and is accepted.  Check a width that comes from
+     outside before it is narrowed, as stream.c below does.
+
+   TERMS
+     Elsewhere an open hash is called a hashing context, a stored form the
+     serialized context, a width the digest size, to feed a piece to update, to
+     take a digest to finalize (here the hash stays open), a state the chaining
+     value, and messages that meet a collision of the whole state.
 
    MESSAGES
      A message is a string of bits, given as bytes and a count of bits.  In a
@@ -27,8 +36,100 @@
        - a pointer without a length points to one number;
        - pointers are aligned for their type;
        - what a call writes to overlaps nothing else that it was given.
-     Calls keep nothing between them, allocate nothing and may run on several
-     threads at once, each on buffers of its own. */
+     Where there is nothing to point to, any other aligned pointer will do, as
+     the address of a local variable: with length 0 it is neither read nor
+     written.  An empty std::vector may have a null data(); vector.cpp below
+     shows what to hand over for it.
+
+   MEMORY
+     A call uses the caller's stack and what it was lent, and nothing else: no
+     heap, and no variable that outlives the call.  So it keeps nothing between
+     calls, and several threads may call at once, each on buffers of its own.
+     SIMD_STACK_HASH and its like below bound the stack.  Of the C library it
+     needs memcpy and memset only.
+
+   EXAMPLES
+     Each is a whole file and compiles without warnings.
+
+     whole.c: the digest of a message at hand.
+
+       #include <stdio.h>
+       #include "simd.h"
+
+       int main(void)
+       {
+           const uint8_t message[3] = {'a', 'b', 'c'};
+           uint8_t digest[SIMD_DIGEST(256)];
+           uint8_t refusal = simd_hash(256, message, sizeof message, 8 * sizeof message,
+                                       digest, sizeof digest);
+           if (refusal != SIMD_ACCEPTED) {
+               fprintf(stderr, "refused %d: %s\n", refusal, simd_refusal_text(refusal));
+               return 1;
+           }
+           for (int k = 0; k < SIMD_DIGEST(256); k++)
+               printf("%02x", digest[k]);
+           putchar('\n');
+           return 0;
+       }
+
+     stream.c: the digest of standard input, at a width that is known only when
+     the program runs.  An array of SIMD_FORM_LARGE bytes holds an open hash of
+     any width; the calls are handed its first SIMD_FORM(width) bytes.
+
+       #include <stdio.h>
+       #include <stdlib.h>
+       #include "simd.h"
+
+       int main(int argc, char **argv)
+       {
+           long asked = argc > 1 ? strtol(argv[1], NULL, 10) : 256;
+           uint16_t width = asked < 0 || asked > UINT16_MAX ? 0 : (uint16_t)asked;
+           uint8_t form[SIMD_FORM_LARGE], piece[4096], digest[SIMD_DIGEST_MAX];
+           uint64_t blocks;
+           size_t got;
+           uint8_t refusal = simd_open(width, form, sizeof form);
+           while (refusal == SIMD_ACCEPTED && (got = fread(piece, 1, sizeof piece, stdin)) > 0)
+               refusal = simd_feed(form, SIMD_FORM(width), piece, got, 8 * (uint64_t)got, &blocks);
+           if (refusal == SIMD_ACCEPTED)
+               refusal = simd_take(form, SIMD_FORM(width), digest, sizeof digest, &blocks);
+           if (refusal != SIMD_ACCEPTED) {
+               fprintf(stderr, "refused %d: %s\n", refusal, simd_refusal_text(refusal));
+               return 1;
+           }
+           if (ferror(stdin)) {
+               perror("standard input");
+               return 1;
+           }
+           for (int k = 0; k < SIMD_DIGEST(width); k++)
+               printf("%02x", digest[k]);
+           putchar('\n');
+           return 0;
+       }
+
+     vector.cpp: a std::vector, which may be empty.
+
+       #include <cstdio>
+       #include <vector>
+       #include "simd.h"
+
+       static bool hash_vector(const std::vector<uint8_t> &message, uint8_t *digest)
+       {
+           static const uint8_t none = 0;
+           return simd_hash(512, message.empty() ? &none : message.data(), message.size(),
+                            8 * static_cast<uint64_t>(message.size()),
+                            digest, SIMD_DIGEST(512)) == SIMD_ACCEPTED;
+       }
+
+       int main()
+       {
+           uint8_t digest[SIMD_DIGEST(512)];
+           if (!hash_vector(std::vector<uint8_t>(), digest))
+               return 1;
+           for (uint8_t byte : digest)
+               std::printf("%02x", byte);
+           std::putchar('\n');
+           return 0;
+       } */
 
 #ifndef SIMD_H
 #define SIMD_H
@@ -40,6 +141,21 @@
 extern "C" {
 #else
 #include <stdbool.h>
+#endif
+
+/* VERSION of this library; that of the function is always SIMD v1.1 */
+
+#define SIMD_VERSION_MAJOR 1
+#define SIMD_VERSION_MINOR 0
+#define SIMD_VERSION_PATCH 0
+#define SIMD_VERSION "1.0.0"
+
+/* Marks each call: where the compiler knows how, it warns of an answer that is
+   not looked at, and of a null pointer that it sees in a call. */
+#if defined(__GNUC__)
+#define SIMD_CALL __attribute__((warn_unused_result, nonnull))
+#else
+#define SIMD_CALL
 #endif
 
 /* SIZES, in bytes unless said otherwise */
@@ -61,6 +177,21 @@ extern "C" {
 /* The most bits of a message. */
 #define SIMD_BITS_MAX UINT64_C(4294967295)
 
+/* The most stack of a call, in bytes, at any width and for all arguments, with
+   its arguments and return address.  Rounded up from what was measured and from
+   what the machine code can need at all; the library's tests do both again
+   (tests/c/stack.c, tests/c/frames.py). */
+#define SIMD_STACK_OPEN 1536
+#define SIMD_STACK_FEED 11264
+#define SIMD_STACK_TAKE 10752
+#define SIMD_STACK_HASH 9216
+#define SIMD_STACK_EXPAND 6144
+#define SIMD_STACK_STEPS 7680
+#define SIMD_STACK_UNSTEPS 7680
+#define SIMD_STACK_COMPARE 9216
+#define SIMD_STACK_TAPE 11776
+#define SIMD_STACK_MAX 11776    /* of all calls */
+
 /* REFUSALS */
 
 #define SIMD_ACCEPTED 0
@@ -77,6 +208,30 @@ extern "C" {
 #define SIMD_REFUSED_END 11      /* tape: ends in a command, or before STOP */
 #define SIMD_REFUSED_ORDER 12    /* tape: OPEN while open; FULL, PART, TAKE while not */
 #define SIMD_REFUSED_TAPE 13     /* program seal: tape above 65,536 bytes; no call here answers it */
+
+/* simd_refusal_text - an answer in words, for programs that print it
+
+   Never null; a number that no call answers has a text of its own. */
+static inline const char *simd_refusal_text(uint8_t refusal)
+{
+    switch (refusal) {
+    case SIMD_ACCEPTED: return "accepted";
+    case SIMD_REFUSED_WIDTH: return "the width is none of 224, 256, 384 and 512";
+    case SIMD_REFUSED_COUNT: return "more bits than the bytes have";
+    case SIMD_REFUSED_SPARE: return "a bit is set past the count";
+    case SIMD_REFUSED_TOTAL: return "more than 4294967295 bits in all";
+    case SIMD_REFUSED_HASH: return "the open hash is none";
+    case SIMD_REFUSED_OUTPUT: return "the output is too short";
+    case SIMD_REFUSED_BLOCK: return "the block or state has not the width's size";
+    case SIMD_REFUSED_FORM: return "the stored form has not its width's size";
+    case SIMD_REFUSED_TAIL: return "a bit of the stored form is set past its tail";
+    case SIMD_REFUSED_COMMAND: return "no such command on the tape";
+    case SIMD_REFUSED_END: return "the tape ends in a command or before STOP";
+    case SIMD_REFUSED_ORDER: return "the tape opens an open hash, or uses one that is not open";
+    case SIMD_REFUSED_TAPE: return "the tape has more than 65536 bytes";
+    default: return "no such refusal";
+    }
+}
 
 /* VERDICTS of simd_compare */
 
@@ -110,7 +265,7 @@ extern "C" {
    Refusals, in order:
      SIMD_REFUSED_WIDTH
      SIMD_REFUSED_OUTPUT  form_len is below SIMD_FORM(width) */
-uint8_t simd_open(uint16_t width, uint8_t *form, size_t form_len);
+SIMD_CALL uint8_t simd_open(uint16_t width, uint8_t *form, size_t form_len);
 
 /* simd_feed - feed a piece of a message
 
@@ -123,9 +278,9 @@ uint8_t simd_open(uint16_t width, uint8_t *form, size_t form_len);
      SIMD_REFUSED_COUNT   bits is above 8 * piece_len
      SIMD_REFUSED_SPARE   a bit after the last one is set in its byte
      SIMD_REFUSED_TOTAL   the hash would have more than SIMD_BITS_MAX bits */
-uint8_t simd_feed(uint8_t *form, size_t form_len,
-                  const uint8_t *piece, size_t piece_len, uint64_t bits,
-                  uint64_t *blocks);
+SIMD_CALL uint8_t simd_feed(uint8_t *form, size_t form_len,
+                            const uint8_t *piece, size_t piece_len, uint64_t bits,
+                            uint64_t *blocks);
 
 /* simd_take - take the digest of what was fed
 
@@ -137,8 +292,8 @@ uint8_t simd_feed(uint8_t *form, size_t form_len,
    Refusals, in order:
      those of a form
      SIMD_REFUSED_OUTPUT  out_len is below SIMD_DIGEST(width) */
-uint8_t simd_take(const uint8_t *form, size_t form_len,
-                  uint8_t *out, size_t out_len, uint64_t *blocks);
+SIMD_CALL uint8_t simd_take(const uint8_t *form, size_t form_len,
+                            uint8_t *out, size_t out_len, uint64_t *blocks);
 
 /* ONE CALL FOR A WHOLE MESSAGE */
 
@@ -154,8 +309,8 @@ uint8_t simd_take(const uint8_t *form, size_t form_len,
      SIMD_REFUSED_SPARE   a bit after the last one is set in its byte
      SIMD_REFUSED_TOTAL   bits is above SIMD_BITS_MAX
      SIMD_REFUSED_OUTPUT  out_len is below SIMD_DIGEST(width) */
-uint8_t simd_hash(uint16_t width, const uint8_t *message, size_t message_len,
-                  uint64_t bits, uint8_t *out, size_t out_len);
+SIMD_CALL uint8_t simd_hash(uint16_t width, const uint8_t *message, size_t message_len,
+                            uint64_t bits, uint8_t *out, size_t out_len);
 
 /* PARTS OF THE COMPRESSION
 
@@ -173,9 +328,9 @@ uint8_t simd_hash(uint16_t width, const uint8_t *message, size_t message_len,
      SIMD_REFUSED_WIDTH
      SIMD_REFUSED_BLOCK   block_len is not SIMD_BLOCK(width)
      SIMD_REFUSED_OUTPUT  out_len is below SIMD_WORDS(width) */
-uint8_t simd_expand(uint16_t width, bool last,
-                    const uint8_t *block, size_t block_len,
-                    uint32_t *out, size_t out_len);
+SIMD_CALL uint8_t simd_expand(uint16_t width, bool last,
+                              const uint8_t *block, size_t block_len,
+                              uint32_t *out, size_t out_len);
 
 /* simd_steps, simd_unsteps - the 32 steps, forward and backward
 
@@ -189,14 +344,14 @@ uint8_t simd_expand(uint16_t width, bool last,
      SIMD_REFUSED_WIDTH
      SIMD_REFUSED_BLOCK   state_len or block_len is not SIMD_BLOCK(width)
      SIMD_REFUSED_OUTPUT  out_len is below SIMD_BLOCK(width) */
-uint8_t simd_steps(uint16_t width, bool last,
-                   const uint8_t *state, size_t state_len,
-                   const uint8_t *block, size_t block_len,
-                   uint8_t *out, size_t out_len);
-uint8_t simd_unsteps(uint16_t width, bool last,
-                     const uint8_t *state, size_t state_len,
-                     const uint8_t *block, size_t block_len,
-                     uint8_t *out, size_t out_len);
+SIMD_CALL uint8_t simd_steps(uint16_t width, bool last,
+                             const uint8_t *state, size_t state_len,
+                             const uint8_t *block, size_t block_len,
+                             uint8_t *out, size_t out_len);
+SIMD_CALL uint8_t simd_unsteps(uint16_t width, bool last,
+                               const uint8_t *state, size_t state_len,
+                               const uint8_t *block, size_t block_len,
+                               uint8_t *out, size_t out_len);
 
 /* COMPARISON */
 
@@ -221,10 +376,10 @@ uint8_t simd_unsteps(uint16_t width, bool last,
      SIMD_REFUSED_SPARE   of a: a bit after the last one is set in its byte
      SIMD_REFUSED_TOTAL   of a: a_bits is above SIMD_BITS_MAX
      the same three of b */
-uint8_t simd_compare(uint16_t width,
-                     const uint8_t *a, size_t a_len, uint64_t a_bits,
-                     const uint8_t *b, size_t b_len, uint64_t b_bits,
-                     uint64_t *verdict, uint64_t *block);
+SIMD_CALL uint8_t simd_compare(uint16_t width,
+                               const uint8_t *a, size_t a_len, uint64_t a_bits,
+                               const uint8_t *b, size_t b_len, uint64_t b_bits,
+                               uint64_t *verdict, uint64_t *block);
 
 /* TAPE */
 
@@ -255,9 +410,9 @@ uint8_t simd_compare(uint16_t width,
      SIMD_REFUSED_TOTAL   FULL, PART: the hash would have more than SIMD_BITS_MAX
                           bits
      SIMD_REFUSED_OUTPUT  TAKE: less of out is left than the digest needs */
-uint8_t simd_tape(const uint8_t *tape, size_t tape_len,
-                  uint8_t *out, size_t out_len,
-                  uint64_t *count, uint64_t *place);
+SIMD_CALL uint8_t simd_tape(const uint8_t *tape, size_t tape_len,
+                            uint8_t *out, size_t out_len,
+                            uint64_t *count, uint64_t *place);
 
 #ifdef __cplusplus
 }

@@ -39,6 +39,9 @@ def by_rows(name, width, words):
 class Door:
     """The calls of include/simd.h; a state is its bytes."""
 
+    # The bytes of a block are handed to the calls, not given by them.
+    without = ("M",)
+
     @staticmethod
     def digest(width, data, bits):
         return accepted(product.hash(width, data, bits, bytes(width // 8)))
@@ -82,7 +85,7 @@ class Door:
 
 def main():
     tally, kinds = Tally("appendix_a"), {}
-    for width in ref.WIDTHS:
+    for width in check.WIDTHS:
         counts, failures = check.check(width, Door)
         for kind, n in counts.items():
             kinds[kind] = kinds.get(kind, 0) + n

@@ -3,7 +3,8 @@
 //! The names are those of the C header: [`Hash::open`], [`Hash::feed`], [`Hash::take`], [`hash`],
 //! [`expand`], [`steps`], [`unsteps`], [`compare`], [`tape`]. A width is 224, 256, 384 or 512. A
 //! message is bytes and a count of bits; in a byte the first bit is the highest, and bits past the
-//! count in the last byte used have to be 0.
+//! count in the last byte used have to be 0. Elsewhere an open hash is called a hashing context, to
+//! feed is to update, and to take is to finalize; here the hash stays open.
 //!
 //! ```
 //! let digest = simd::hash(256, b"", 0)?;
@@ -11,6 +12,13 @@
 //!     digest.to_string(),
 //!     "8029e81e7320e13ed9001dc3d8021fec695b7a25cd43ad805260181c35fcaea8"
 //! );
+//! # Ok::<(), simd::Refusal>(())
+//! ```
+//!
+//! Where all is whole bytes, [`hash_bytes`] and [`Hash::feed_bytes`] count the bits:
+//!
+//! ```
+//! assert_eq!(simd::hash_bytes(256, b"abc")?, simd::hash(256, b"abc", 24)?);
 //! # Ok::<(), simd::Refusal>(())
 //! ```
 
@@ -50,11 +58,24 @@ fn form_len(width: u16) -> usize {
     6 + 2 * block_len(width)
 }
 
-fn whole_bytes(bytes: &[u8]) -> u64 {
-    8 * bytes.len() as u64
+/// The bits of a slice; more than a message may have stays more.
+fn bits_of(bytes: &[u8]) -> u64 {
+    (bytes.len() as u64).saturating_mul(8)
 }
 
-/// A digest; its `Display` is lowercase hexadecimal.
+/// A digest.
+///
+/// Its `Display` and `LowerHex` are its lowercase hexadecimal digits. A precision cuts `Display`:
+/// the quote that `seal` prints is the first 8 digits.
+///
+/// ```
+/// let digest = simd::hash_bytes(224, b"")?;
+/// assert_eq!(digest.to_vec(), digest.as_bytes());
+/// assert_eq!(digest.to_vec().len(), 28);
+/// assert_eq!(format!("{digest}"), format!("{digest:x}"));
+/// assert_eq!(format!("{digest:.8}"), "43e1d536");
+/// # Ok::<(), simd::Refusal>(())
+/// ```
 #[derive(Clone, Copy, PartialEq, Eq, Hash)]
 pub struct Digest {
     bytes: [u8; DIGEST_MAX],
@@ -68,19 +89,46 @@ impl Digest {
             len: usize::from(width / 8),
         }
     }
+
+    /// Its bytes, as many as the width has bits, by 8.
+    pub fn as_bytes(&self) -> &[u8] {
+        &self.bytes[..self.len]
+    }
+
+    /// Its bytes, copied.
+    pub fn to_vec(&self) -> Vec<u8> {
+        self.as_bytes().to_vec()
+    }
+
+    /// Its width.
+    pub fn width(&self) -> u16 {
+        8 * self.len as u16
+    }
+
+    fn hex(&self) -> String {
+        self.as_bytes()
+            .iter()
+            .flat_map(|byte| [byte >> 4, byte & 15])
+            .map(|digit| char::from(b"0123456789abcdef"[usize::from(digit)]))
+            .collect()
+    }
 }
 
 impl AsRef<[u8]> for Digest {
     fn as_ref(&self) -> &[u8] {
-        &self.bytes[..self.len]
+        self.as_bytes()
     }
 }
 
 impl fmt::Display for Digest {
     fn fmt(&self, f: &mut fmt::Formatter<'_>) -> fmt::Result {
-        self.as_ref()
-            .iter()
-            .try_for_each(|byte| write!(f, "{byte:02x}"))
+        f.pad(&self.hex())
+    }
+}
+
+impl fmt::LowerHex for Digest {
+    fn fmt(&self, f: &mut fmt::Formatter<'_>) -> fmt::Result {
+        f.pad_integral(true, "0x", &self.hex())
     }
 }
 
@@ -190,6 +238,13 @@ impl Hash {
         Ok(blocks)
     }
 
+    /// Feeds whole bytes; answers how many blocks were compressed.
+    ///
+    /// Refused: [`Refusal::Total`]. The hash is then unchanged.
+    pub fn feed_bytes(&mut self, bytes: &[u8]) -> Result<u64, Refusal> {
+        self.feed(bytes, bits_of(bytes))
+    }
+
     /// The digest of all bits fed. The hash stays open.
     pub fn take(&self) -> Taken {
         take(self.store()).expect("a hash holds a legal form")
@@ -237,7 +292,7 @@ impl fmt::Debug for Hash {
 /// holds [`Refusal::Total`].
 impl io::Write for Hash {
     fn write(&mut self, bytes: &[u8]) -> io::Result<usize> {
-        self.feed(bytes, whole_bytes(bytes))?;
+        self.feed_bytes(bytes)?;
         Ok(bytes.len())
     }
 
@@ -274,6 +329,13 @@ pub fn hash(width: u16, message: &[u8], bits: u64) -> Result<Digest, Refusal> {
     };
     Refusal::check(number)?;
     Ok(Digest::new(bytes, width))
+}
+
+/// The digest of a message of whole bytes.
+///
+/// Refused: [`Refusal::Width`], [`Refusal::Total`].
+pub fn hash_bytes(width: u16, message: &[u8]) -> Result<Digest, Refusal> {
+    hash(width, message, bits_of(message))
 }
 
 /// The expanded message of one block, 32 rows of 4 or 8 words, row after row; `last` tells the

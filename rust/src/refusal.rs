@@ -30,21 +30,22 @@ pub enum Refusal {
     Order = 12,
 }
 
-const ALL: [Refusal; 11] = [
-    Refusal::Width,
-    Refusal::Count,
-    Refusal::Spare,
-    Refusal::Total,
-    Refusal::Output,
-    Refusal::Block,
-    Refusal::Form,
-    Refusal::Tail,
-    Refusal::Command,
-    Refusal::End,
-    Refusal::Order,
-];
-
 impl Refusal {
+    /// All of them, by number.
+    pub const ALL: &'static [Refusal] = &[
+        Refusal::Width,
+        Refusal::Count,
+        Refusal::Spare,
+        Refusal::Total,
+        Refusal::Output,
+        Refusal::Block,
+        Refusal::Form,
+        Refusal::Tail,
+        Refusal::Command,
+        Refusal::End,
+        Refusal::Order,
+    ];
+
     /// The number that the library answers.
     pub fn number(self) -> u8 {
         self as u8
@@ -55,8 +56,8 @@ impl Refusal {
         if number == 0 {
             return Ok(());
         }
-        let known = ALL.into_iter().find(|refusal| refusal.number() == number);
-        Err(known.unwrap_or_else(|| panic!("the library answered {number}")))
+        let known = Self::ALL.iter().find(|refusal| refusal.number() == number);
+        Err(*known.unwrap_or_else(|| panic!("the library answered {number}")))
     }
 }
 

@@ -4,7 +4,7 @@ use std::fs;
 use std::io::Write;
 use std::path::Path;
 
-use simd::{compare, expand, hash, steps, tape, Hash, Refusal, Verdict};
+use simd::{compare, expand, hash, hash_bytes, steps, tape, Hash, Refusal, Verdict};
 
 const WIDTHS: [u16; 4] = [224, 256, 384, 512];
 
@@ -189,4 +189,74 @@ fn tape_without_room() {
         (refused.refusal, refused.place, refused.count),
         (Refusal::Output, 7, 1)
     );
+}
+
+#[test]
+fn digests_as_bytes_and_as_text() {
+    for m in messages() {
+        let digest = hash(m.width, &m.data, m.bits).unwrap();
+        assert_eq!(digest.to_vec(), from_hex(&m.digest));
+        assert_eq!(digest.as_bytes(), digest.as_ref());
+        assert_eq!(digest.width(), m.width);
+        assert_eq!(format!("{digest:x}"), m.digest);
+        assert_eq!(format!("{digest:#x}"), format!("0x{}", m.digest));
+        assert_eq!(format!("{digest:.8}"), m.digest[..8]);
+        assert_eq!(format!("{digest:?}"), format!("Digest({})", m.digest));
+    }
+}
+
+#[test]
+fn whole_bytes() {
+    let data: Vec<u8> = (0..1000).map(|k| (k * 7) as u8).collect();
+    for width in WIDTHS {
+        for size in [0, 1, 63, 64, 65, 128, 1000] {
+            let mut open = Hash::open(width).unwrap();
+            open.feed(&[0xa0], 3).unwrap();
+            let mut same = open.clone();
+            assert_eq!(
+                open.feed_bytes(&data[..size]),
+                same.feed(&data[..size], 8 * size as u64)
+            );
+            assert_eq!(open, same);
+            assert_eq!(
+                hash_bytes(width, &data[..size]),
+                hash(width, &data[..size], 8 * size as u64)
+            );
+        }
+    }
+    assert_eq!(hash_bytes(160, b""), Err(Refusal::Width));
+}
+
+/// What the header calls a refusal is what its number is called here.
+#[test]
+fn texts_are_those_of_the_header() {
+    let header = include_str!("../../include/simd.h");
+    let mut found = 0;
+    for number in 1..=12 {
+        let define = header
+            .lines()
+            .find(|line| {
+                let mut field = line.split_whitespace();
+                field.next() == Some("#define")
+                    && field
+                        .next()
+                        .is_some_and(|name| name.starts_with("SIMD_REFUSED_"))
+                    && field.next() == Some(&number.to_string())
+            })
+            .unwrap();
+        let name = define.split_whitespace().nth(1).unwrap();
+        let case = header
+            .split_once(&format!("case {name}: return \""))
+            .unwrap()
+            .1;
+        let text = case.split_once('"').unwrap().0;
+        if let Some(refusal) = Refusal::ALL
+            .iter()
+            .find(|refusal| refusal.number() == number)
+        {
+            assert_eq!(refusal.to_string(), text);
+            found += 1;
+        }
+    }
+    assert_eq!(found, 11);
 }

@@ -6,9 +6,12 @@ Run alone, with the reference.  `check` takes any subject with
     digest(width, data, bits)               the digest
     start(width)                            the state before the first block
     compression(width, last, state, block)  {label: list of values}, new state
+    without                                 the kinds of values it does not give
 
 States are the subject's own.  Labels are those of README.md, as "W 3" or
-"S 31 A"; what a subject has no label for is not compared.
+"S 31 A".  A label of a file that the subject does not know is a failure, unless
+its kind is one of `without`; so is a kind of which fewer or more values were
+compared than COUNTS says.
 """
 
 import collections
@@ -21,6 +24,22 @@ sys.path.insert(0, os.path.join(HERE, os.pardir, "reference"))
 import simd_ref as ref  # noqa: E402
 
 
+WIDTHS = (224, 256, 384, 512)
+
+# How many values of each kind the file of a width has.
+COUNTS = {
+    "digest": (3, 3, 3, 3),
+    "M": (104, 128, 360, 344),
+    "y": (767, 766, 1535, 1535),
+    "Z": (767, 735, 1525, 1528),
+    "W": (688, 679, 1521, 1494),
+    "I": (96, 96, 184, 192),
+    "X": (96, 96, 192, 192),
+    "S": (3455, 3455, 6909, 6861),
+    "O": (80, 36, 112, 36),
+}
+
+
 def columns(name, state):
     """The labels of a state given by its columns."""
     return {"%s %s" % (name, c): words for c, words in zip("ABCD", state)}
@@ -29,6 +48,7 @@ def columns(name, state):
 class Reference:
     """The reference implementation as a subject."""
 
+    without = ()
     digest = staticmethod(ref.digest)
     start = staticmethod(ref.start_state)
 
@@ -73,6 +93,7 @@ def messages(width):
 
 def check(width, subject):
     """(values compared by kind, failures) of a width's file."""
+    assert set(subject.without) <= set(COUNTS)
     counts, failures = collections.Counter(), []
 
     def compare(kind, found, expected, line):
@@ -99,28 +120,66 @@ def check(width, subject):
                 assert last == bool(int(field[3]))
                 values, state = subject.compression(width, last, state, block)
             else:
+                if kind in subject.without:
+                    continue
                 keys = 3 if kind == "S" else 2
                 base = 10 if kind == "y" else 16
-                found = values.get(" ".join(field[:keys]))
-                if found is None:
+                label = " ".join(field[:keys])
+                found = values.get(label, ())
+                if len(found) != len(field) - keys:
+                    failures.append("line %d: %d values of %s, not %d"
+                                    % (n, len(found), label, len(field) - keys))
                     continue
-                assert len(found) == len(field) - keys
                 for text, value in zip(field[keys:], found):
                     if text != "-":
                         compare(kind, value, int(text, base), n)
+    for kind, by_width in COUNTS.items():
+        expected = 0 if kind in subject.without else by_width[WIDTHS.index(width)]
+        if counts[kind] != expected:
+            failures.append("%d values of kind %s compared, not %d"
+                            % (counts[kind], kind, expected))
     return counts, failures
+
+
+def broken(change):
+    """The reference with each {label: values} changed."""
+    class Subject(Reference):
+        @staticmethod
+        def compression(width, last, state, block):
+            values, state = Reference.compression(width, last, state, block)
+            return change(values), state
+    return Subject
+
+
+# Subjects that `check` has to find wrong.
+WRONG = {
+    "W, S and X misnamed": broken(
+        lambda values: {label.translate({ord(c): c.lower() for c in "WSX"}): found
+                        for label, found in values.items()}),
+    "one label less": broken(
+        lambda values: {label: found for label, found in values.items() if label != "S 31 A"}),
+    "a row cut short": broken(
+        lambda values: {label: found[:-1] if label == "y 8" else found
+                        for label, found in values.items()}),
+    "one value wrong": broken(
+        lambda values: dict(values, **{"O B": [w ^ 1 for w in values["O B"]]})),
+}
 
 
 def main():
     bad = 0
-    for width in ref.WIDTHS:
+    for width in WIDTHS:
         counts, failures = check(width, Reference)
         print("simd%d.txt: %d values, %d failures"
               % (width, sum(counts.values()), len(failures)))
         for line in failures:
             print("  " + line)
         bad += len(failures)
-    return 1 if bad else 0
+    unseen = [name for name, subject in WRONG.items() if not check(WIDTHS[0], subject)[1]]
+    print("%d wrong subjects, %d not seen" % (len(WRONG), len(unseen)))
+    for name in unseen:
+        print("  " + name)
+    return 1 if bad or unseen else 0
 
 
 if __name__ == "__main__":

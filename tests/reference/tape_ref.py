@@ -3,7 +3,11 @@
     read(tape, at)   the command at a place and the next place, or Refused
     run(tape, room)  its digests, the refusal and its place
     listing(tape)    what `seal` prints
+
+Run alone, it prints the listing of the tape on standard input.
 """
+
+import sys
 
 import simd_ref as ref
 
@@ -86,3 +90,7 @@ def listing(tape):
              for n, (width, digest) in enumerate(digests, 1)]
     lines.append("refused %d at %d" % (refusal, place) if refusal else "done %d" % len(digests))
     return "\n".join(lines) + "\n"
+
+
+if __name__ == "__main__":
+    sys.stdout.write(listing(sys.stdin.buffer.read()))

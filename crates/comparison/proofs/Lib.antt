@@ -1,1 +1,3 @@
+pub mod SharedLaws
+pub mod FinalLaws
 pub mod Theorems

@@ -158,8 +158,8 @@ module _ (width : ℕ) (a : List ℕ) (na : ℕ) (b : List ℕ) (nb : ℕ) (rule
   unfolding common
   at-meet k e =
       let met = laws.verdict-meet (found f (start width) x y) k (sym unrefused ∙ e) in
-      let wx = is-message a na first in
-      let wy = is-message b nb second in
+      let wx = is-message a na (first .fits) (first .short) in
+      let wy = is-message b nb (second .fits) (second .short) in
       let low = laws.common-meet f (start width) x y wx wy k met in
       let below = laws.below-meet f (start width) x y k met in
       record {

@@ -22,15 +22,13 @@ part n k l fits =
     (λ j below. getD-take n (drop k l) j 0 below ∙ getD-drop k l j 0)
 
 -- The columns of a state by its words.
-pub split-columns : (f : Family) (l : List ℕ) → length l ≡ stateWords f →
-    table (rows f) (λ j. getD l (0 * rows f + j) 0)
-    ∷ table (rows f) (λ j. getD l (1 * rows f + j) 0)
-    ∷ table (rows f) (λ j. getD l (2 * rows f + j) 0)
-    ∷ table (rows f) (λ j. getD l (3 * rows f + j) 0)
-    ∷ [] ≡ columns (state f l)
-unfolding state
-split-columns small l size = sym (λ t. part 4 0 l (omega arith) t ∷ part 4 4 l (omega arith) t ∷ part 4 8 l (omega arith) t ∷ part 4 12 l (omega arith) t ∷ [])
-split-columns large l size = sym (λ t. part 8 0 l (omega arith) t ∷ part 8 8 l (omega arith) t ∷ part 8 16 l (omega arith) t ∷ part 8 24 l (omega arith) t ∷ [])
+pub split-columns : (f : Family) (l : List ℕ) → length l ≡ stateWords f
+    → table 4 (λ c. table (rows f) (λ j. getD l (rows f * c + j) 0)) ≡ columns (state f l)
+unfolding state table
+split-columns small l size =
+    sym (λ t. part 4 0 l (omega arith) t ∷ part 4 4 l (omega arith) t ∷ part 4 8 l (omega arith) t ∷ part 4 12 l (omega arith) t ∷ [])
+split-columns large l size =
+    sym (λ t. part 8 0 l (omega arith) t ∷ part 8 8 l (omega arith) t ∷ part 8 16 l (omega arith) t ∷ part 8 24 l (omega arith) t ∷ [])
 
 -- The words of a state by its columns.
 own : (n : ℕ) (l : List ℕ) → length l ≡ n → l ≡ table n (λ j. getD l j 0)

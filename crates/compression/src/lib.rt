@@ -1,10 +1,25 @@
 // The compression of both families and the starting states. A state is its words in the published order.
 ghost use mathlib.Core.Path.{_≡_};
+ghost use Prim.Native.Nat.{_+_, _≤_};
+ghost use lib.ListN.{length, getD};
+ghost use Rattle.simd.specs.Basic.{table};
 ghost use Rattle.simd.specs.Constants.{start224, start256, start384, start512};
 
 pub mod bytes;
 pub mod large;
 pub mod small;
+
+// Words from a place on, as many as `part` has.
+fn column(words: &[u32], at: usize, part: &mut [u32])
+    requires { ⌜ at + length (now part) ≤ length (now words) ⌝ }
+    ensures { λ _. ⌜ now (part .exit) ≡ table (length (now (part .entry))) (λ j. getD (now (words .entry)) (at + j) 0) ⌝ }
+{
+    let mut j = 0;
+    while j < part.len() {
+        part[j] = words[at + j];
+        j += 1;
+    }
+}
 
 const START_224: [u32; 16] = [
     0x33586e9f,

@@ -1,25 +1,25 @@
 -- The refusals in turn, and the digest from the state after the length block.
 use mathlib.Core.Bool.{true, false, cond}
 use mathlib.Core.List.{List, _++_}
-use mathlib.Core.Path.{_≡_, refl, sym, ap, _∙_}
+use mathlib.Core.Path.{_≡_, sym, ap, _∙_}
 use Prim.Native.Nat.{ℕ, _+_, _-_, _/_, _<_, _≤_}
 use native.Mathlib.Omega.{arith}
 use borrow.Author.Tests.{leb-true, lt-leb, le-leb}
 use borrow.Rule.Slice.PartMut.{postOf}
 use lib.Dec.{leb}
 use lib.ListN.{length, getD, take, length-take}
-use Rattle.simd.specs.Basic.{familyOf, isWidth, blockBytes, stateWords, bytesOf}
+use Rattle.simd.specs.Basic.{Family, familyOf, isWidth, blockBytes, stateWords, bytesOf, digestBytes}
 use Rattle.simd.specs.Constants.{start}
 use Rattle.simd.specs.Message.{message, messageBlocks, lengthBlock}
 use Rattle.simd.specs.Steps.{compression}
 use Rattle.simd.specs.Hash.{chain, final, finalState, digest}
 use Rattle.laws.proofs.Chain.{length-compression}
 use Rattle.iteration.specs.Blocks.{absorbed}
-use Rattle.tail.specs.Zero.{padded}
-use Rattle.tail.proofs.Zeros.{take-padded}
+use Rattle.bits.specs.Zero.{padded}
+use Rattle.bits.proofs.Zeros.{take-padded}
 use Rattle.tail.proofs.Sizes.{words-within}
 use Rattle.tail.proofs.Closing.{closed}
-use Rattle.form.proofs.Writing.{state-bytes}
+use Rattle.little_endian.proofs.Writing.{state-bytes}
 use Rattle.hash.specs.Open.{pieceRefusal, written}
 use Rattle.hash.proofs.Feeding.{length-message, start-length}
 use Rattle.hash.proofs.Digests.{digest-room, length-digest}
@@ -37,67 +37,77 @@ module _ (width : ℕ) (bytes : List ℕ) (count room : ℕ) where
     unfolding digestRefusal
     message-refused some = rw known (same ∙ sym (first-refused (pieceRefusal 0 bytes count) _ (λ e. some (same ∙ e))))
 
-    pub room-short : r ≡ 0 → room < width / 8 → 6 ≡ digestRefusal width bytes count room
+    pub room-short : r ≡ 0 → room < digestBytes width → 6 ≡ digestRefusal width bytes count room
     unfolding digestRefusal
-    room-short none short = rw (known, first-accepted (pieceRefusal 0 bytes count) (cond (leb (width / 8) room) 0 6) (sym same ∙ none), lt-leb (width / 8) room short)
+    room-short none short =
+        let accepted = first-accepted (pieceRefusal 0 bytes count) (cond (leb (digestBytes width) room) 0 6) (sym same ∙ none) in
+        rw (known, accepted, lt-leb (digestBytes width) room short)
 
-    pub room-enough : r ≡ 0 → width / 8 ≤ room → 0 ≡ digestRefusal width bytes count room
+    pub room-enough : r ≡ 0 → digestBytes width ≤ room → 0 ≡ digestRefusal width bytes count room
     unfolding digestRefusal
-    room-enough none enough = rw (known, first-accepted (pieceRefusal 0 bytes count) (cond (leb (width / 8) room) 0 6) (sym same ∙ none), le-leb (width / 8) room enough)
+    room-enough none enough =
+        let accepted = first-accepted (pieceRefusal 0 bytes count) (cond (leb (digestBytes width) room) 0 6) (sym same ∙ none) in
+        rw (known, accepted, le-leb (digestBytes width) room enough)
 
 -- What holds of a call that is not refused.
 pub record Accepted (width : ℕ) (bytes : List ℕ) (count room : ℕ) : Type 0 where
   pub known : isWidth width ≡ true
   pub whole : MessageAccepted 0 bytes count
-  pub enough : width / 8 ≤ room
+  pub enough : digestBytes width ≤ room
 
 pub accepted : (width : ℕ) (bytes : List ℕ) (count room r : ℕ) → r ≡ digestRefusal width bytes count room → r ≡ 0 → Accepted width bytes count room
 unfolding digestRefusal
 accepted width bytes count room r same none =
     let one = passed (isWidth width) _ 0 (sym same ∙ none) in
-    let two = both-passed (pieceRefusal 0 bytes count) (cond (leb (width / 8) room) 0 6) (one .1) in
+    let two = both-passed (pieceRefusal 0 bytes count) (cond (leb (digestBytes width) room) 0 6) (one .1) in
     record {
       known = one .0;
       whole = message-accepted 0 bytes count (two .0);
-      enough = leb-true (width / 8) room (passed (leb (width / 8) room) 0 5 (two .1) .0);
+      enough = leb-true (digestBytes width) room (passed (leb (digestBytes width) room) 0 5 (two .1) .0);
     }
 
-module _ (width : ℕ) (bytes : List ℕ) (count room : ℕ) (a : Accepted width bytes count room) (fits : (i : ℕ) → getD bytes i 0 < 256) where
+module _ (width : ℕ) (bytes : List ℕ) (count room : ℕ) (a : Accepted width bytes count room) (fits : (i : ℕ) → getD bytes i 0 < 256)
+    (b : ℕ) (cut : b ≡ (count + 7) / 8) where
   -- The bytes of the message, as the code cuts them.
   abbrev used : List ℕ
-  used = take ((count + 7) / 8 - 0) bytes
+  used = take (b - 0) bytes
+
+  abbrev f : Family
+  f = familyOf width
 
   -- The state after the length block is the final state.
   finished : (state state′ : List ℕ) → state ≡ padded 32 (start width)
-      → state′ ≡ padded 32 (compression (familyOf width) true
-      (absorbed (familyOf width) (take (stateWords (familyOf width)) state) used ((length used + (blockBytes (familyOf width) - 1)) / blockBytes (familyOf width)))
-      (lengthBlock (familyOf width) count))
+      → state′ ≡ padded 32 (compression f true
+      (absorbed f (take (stateWords f) state) used ((length used + (blockBytes f - 1)) / blockBytes f))
+      (lengthBlock f count))
       → state′ ≡ padded 32 (finalState width (message bytes count))
   unfolding finalState final message
   finished state state′ begun stated =
-      let f = familyOf width in
       let first : take (stateWords f) state ≡ start width =
       ap (take (stateWords f)) begun ∙ take-padded 32 (stateWords f) (start width) (start-length width (a .known)) (words-within f) in
-      closed bytes count (a .whole .within) (a .whole .clean) fits f (start width) (lengthBlock f count) count refl
-      (stated ∙ ap (λ (s : List ℕ). padded 32 (compression f true (absorbed f s used ((length used + (blockBytes f - 1)) / blockBytes f)) (lengthBlock f count))) first)
-      ∙ ap (λ (n : ℕ). padded 32 (compression f true (chain f (start width) (message bytes count) (messageBlocks f n)) (lengthBlock f n))) (sym (length-message bytes count (a .whole .within)))
+      closed bytes count (a .whole .within) (a .whole .clean) fits f (start width) (lengthBlock f count) b cut
+      (stated
+      ∙ ap (λ (s : List ℕ). padded 32 (compression f true (absorbed f s used ((length used + (blockBytes f - 1)) / blockBytes f)) (lengthBlock f count)))
+      first)
+      ∙ ap (λ (n : ℕ). padded 32 (compression f true (chain f (start width) (message bytes count) (messageBlocks f n)) (lengthBlock f n)))
+      (sym (length-message bytes count (a .whole .within)))
 
   -- What is written.
-  pub digest-written : (out state state′ front : List ℕ) → length out ≡ room → state ≡ padded 32 (start width)
-      → state′ ≡ padded 32 (compression (familyOf width) true
-      (absorbed (familyOf width) (take (stateWords (familyOf width)) state) used ((length used + (blockBytes (familyOf width) - 1)) / blockBytes (familyOf width)))
-      (lengthBlock (familyOf width) count))
-      → front ≡ take (length (take (width / 8 - 0) out)) (bytesOf state′)
-      → front ++ postOf 0 (width / 8 - 0) out ≡ written 0 (digest width (message bytes count)) out
+  pub digest-written : (k : ℕ) → k ≡ digestBytes width → (out state state′ front : List ℕ) → length out ≡ room → state ≡ padded 32 (start width)
+      → state′ ≡ padded 32 (compression f true
+      (absorbed f (take (stateWords f) state) used ((length used + (blockBytes f - 1)) / blockBytes f))
+      (lengthBlock f count))
+      → front ≡ take (length (take (k - 0) out)) (bytesOf state′)
+      → front ++ postOf 0 (k - 0) out ≡ written 0 (digest width (message bytes count)) out
   unfolding digest finalState final
-  digest-written out state state′ front long begun stated wrote =
-      let f = familyOf width in
+  digest-written k sized out state state′ front long begun stated wrote =
       let m = message bytes count in
       let n = length m in
-      let size : length (take (width / 8 - 0) out) ≡ width / 8 = omega (arith, length-take (width / 8 - 0) out, a .enough) in
+      let size : length (take (k - 0) out) ≡ digestBytes width = omega (arith, length-take (k - 0) out, a .enough) in
       let words = length-compression f true (chain f (start width) m (messageBlocks f n)) (lengthBlock f n) in
       let ended = finished state state′ begun stated in
       let same : front ≡ digest width m =
       wrote ∙ (λ i. take (size i) (bytesOf (ended i)))
-      ∙ state-bytes (width / 8) (finalState width m) (omega (arith, words, digest-room width (a .known))) (omega (arith, words, words-within f)) in
-      front-written (width / 8) front out (ap length same ∙ length-digest width (a .known) m) ∙ ap (λ (b : List ℕ). written 0 b out) same
+      ∙ state-bytes (digestBytes width) (finalState width m) (omega (arith, words, digest-room width (a .known)))
+      (omega (arith, words, words-within f)) in
+      front-written k front out (ap length same ∙ length-digest width (a .known) m ∙ sym sized) ∙ ap (λ (b : List ℕ). written 0 b out) same

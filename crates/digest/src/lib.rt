@@ -17,7 +17,7 @@ fn refusal(width: u16, message: &[u8], count: usize, room: usize) -> u8
     if refused != 0 {
         return refused;
     }
-    if room < (width / 8) as usize {
+    if room < tail::digest_bytes(width) {
         return 6;
     }
     0
@@ -33,10 +33,10 @@ pub fn digest(width: u16, message: &[u8], count: usize, out: &mut [u8]) -> u8
     if refused != 0 {
         return refused;
     }
-    let mut state = hash::start_state(width);
-    let bytes = (count + 7) / 8;
+    let mut state = hash_parts::start_state(width);
+    let bytes = bits::bytes_of_bits(count);
     tail::conclude(width, &mut state, &message[0..bytes], count as u64);
-    let length = (width / 8) as usize;
-    form::write_words(&mut out[0..length], state);
+    let length = tail::digest_bytes(width);
+    little_endian::write_words(&mut out[0..length], state);
     0
 }

@@ -58,7 +58,8 @@ ham-cut (suc m) n a b c d h k =
     let x : (a + 2 ^ suc m * b) / 2 ≡ a / 2 + 2 ^ m * b = omega (arith, up b) in
     let y : (c + 2 ^ suc m * d) / 2 ≡ c / 2 + 2 ^ m * d = omega (arith, up d) in
     rw (suc-add m n, x, y, low)
-    (ap (λ v. (a + c) % 2 + v) (ham-cut m n (a / 2) b (c / 2) d (omega arith) (omega arith)) ∙ sym (add-assoc ((a + c) % 2) (ham m (a / 2) (c / 2)) (ham n b d)))
+    (ap (λ v. (a + c) % 2 + v) (ham-cut m n (a / 2) b (c / 2) d (omega arith) (omega arith))
+    ∙ sym (add-assoc ((a + c) % 2) (ham m (a / 2) (c / 2)) (ham n b d)))
 
 differ-sym : (x y : ℕ) → differ x y ≡ differ y x
 differ-sym x y =

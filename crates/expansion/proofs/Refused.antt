@@ -35,7 +35,8 @@ pub unknown : (w bytes room : ℕ) → isWidth w ≡ false → expandRefusal w b
 unfolding expandRefusal
 unknown w bytes room other = ap (λ k. cond k (sizeRefusal (blockBytes (familyOf w)) (expandedWords (familyOf w)) bytes room) 1) other
 
-pub known : (w bytes room : ℕ) (f : Family) → isWidth w ≡ true → familyOf w ≡ f → expandRefusal w bytes room ≡ sizeRefusal (blockBytes f) (expandedWords f) bytes room
+pub known : (w bytes room : ℕ) (f : Family) → isWidth w ≡ true → familyOf w ≡ f
+    → expandRefusal w bytes room ≡ sizeRefusal (blockBytes f) (expandedWords f) bytes room
 unfolding expandRefusal
 known w bytes room f yes-width is =
     ap (λ k. cond k (sizeRefusal (blockBytes (familyOf w)) (expandedWords (familyOf w)) bytes room) 1) yes-width
@@ -58,11 +59,13 @@ sizes w bytes room f is zero-refusal =
 pub refused : (w : ℕ) (last : Bool) (block out : List ℕ) → (expandRefusal w (length block) (length out) ≡ 0 → ⊥) → out ≡ expandOutput w last block out
 unfolding expandOutput
 refused w last block out stopped =
-    ap (λ k. cond k (flatten (expanded (familyOf w) last block) ++ drop (expandedWords (familyOf w)) out) out) (sym (ne-eqb (expandRefusal w (length block) (length out)) 0 stopped))
+    ap (λ k. cond k (flatten (expanded (familyOf w) last block) ++ drop (expandedWords (familyOf w)) out) out)
+    (sym (ne-eqb (expandRefusal w (length block) (length out)) 0 stopped))
 
 pub accepted : (w : ℕ) (last : Bool) (block out : List ℕ) (f : Family) → familyOf w ≡ f → expandRefusal w (length block) (length out) ≡ 0
     → flatten (expanded f last block) ++ drop (expandedWords f) out ≡ expandOutput w last block out
 unfolding expandOutput
 accepted w last block out f is zero-refusal =
     ap (λ g. flatten (expanded g last block) ++ drop (expandedWords g) out) (sym is)
-    ∙ ap (λ k. cond k (flatten (expanded (familyOf w) last block) ++ drop (expandedWords (familyOf w)) out) out) (sym (eq-eqb (expandRefusal w (length block) (length out)) 0 zero-refusal))
+    ∙ ap (λ k. cond k (flatten (expanded (familyOf w) last block) ++ drop (expandedWords (familyOf w)) out) out)
+    (sym (eq-eqb (expandRefusal w (length block) (length out)) 0 zero-refusal))

@@ -24,11 +24,19 @@ values-lt n f last b {ys} values k = by (decLt k n)
     by (no past) =
         rw (List·getD-eq-default ys 0 {n = k} (omega (arith, ap length values, length-table n (transform f last b)))) (omega arith)
 
+-- What the matrix asks of the values.
+pub as-values : (n : ℕ) (f : Family) (last : Bool) (b : List ℕ) {ys : List ℕ} → ys ≡ table n (transform f last b)
+    → (length ys ≡ n) × ((k : ℕ) → getD ys k 0 < 257)
+as-values n f last b values = (ap length values ∙ length-table n (transform f last b), values-lt n f last b values)
+
 pub is-rows : (f : Family) (last : Bool) (b : List ℕ) {e : List (List ℕ)} → e ≡ expanded f last b → IsRows (rows f) e
 unfolding expanded
 is-rows f last b all =
     let row : ℕ → List ℕ = λ i. table (rows f) (matrix f (transform f last b) (getD order i 0)) in
     record {
       count = ap length all ∙ length-table 32 row;
-      width = λ k below. ap (λ l. length (getD l k [])) all ∙ ap length (getD-table 32 row k [] below) ∙ length-table (rows f) (matrix f (transform f last b) (getD order k 0));
+      width =
+          λ k below.
+          ap (λ l. length (getD l k [])) all ∙ ap length (getD-table 32 row k [] below)
+          ∙ length-table (rows f) (matrix f (transform f last b) (getD order k 0));
     }

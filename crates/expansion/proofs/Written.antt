@@ -65,7 +65,8 @@ module _ {before : List ℕ} {at : ℕ} {row : List ℕ} where
   pub pasted-none : Pasted before at row 0 before
   pasted-none = record { is = paste-zero before at row; size = refl }
 
-  pub pasted-more : {j : ℕ} {l : List ℕ} → Pasted before at row j l → at + j < length before → j < length row → Pasted before at row (j + 1) (set l (at + j) (getD row j 0))
+  pub pasted-more : {j : ℕ} {l : List ℕ} → Pasted before at row j l → at + j < length before → j < length row
+      → Pasted before at row (j + 1) (set l (at + j) (getD row j 0))
   pasted-more {j} {l} p room more =
       record {
         is = rw (p .is, add-one j) (paste-suc before at row j 0 room more);

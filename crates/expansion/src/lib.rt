@@ -1,10 +1,10 @@
 // The message expansion of one block, for both families.
 ghost use mathlib.Core.List.{_++_, flatten};
 ghost use mathlib.Core.Path.{_≡_};
-ghost use Prim.Native.Nat.{_%_, _≤_};
+ghost use Prim.Native.Nat.{_≤_};
 ghost use lib.ListN.{length, drop};
-ghost use Rattle.simd.specs.Basic.{small, large, isWidth, table};
-ghost use Rattle.simd.specs.Expansion.{added as addedTo, expanded};
+ghost use Rattle.simd.specs.Basic.{small, large, isWidth};
+ghost use Rattle.simd.specs.Expansion.{expanded};
 ghost use Rattle.transform_tables.specs.Roots.{Roots};
 ghost use Rattle.expansion.specs.Call.{sizeRefusal, expandRefusal, expandOutput};
 
@@ -53,19 +53,13 @@ fn size_refusal(block: usize, words: usize, bytes: usize, room: usize) -> u8
     0
 }
 
-// The expanded block. The tables are those of `transform_tables::roots` and `transform_tables::added_small`.
-pub fn expand_small(
-    block: &[u8],
-    roots: &[u16; 512],
-    added: &[u16; 128],
-    last: bool,
-) -> [[u32; 4]; 32]
+// The expanded block. The table is that of `transform_tables::roots`.
+pub fn expand_small(block: &[u8], roots: &[u16; 512], last: bool) -> [[u32; 4]; 32]
     requires { ⌜ (length (now block) ≡ 64) × Roots (now roots) ⌝ }
-    requires { ⌜ now added ≡ table 128 (λ i. addedTo small last i % 257) ⌝ }
     ensures { λ r. ⌜ r ≡ expanded small last (now (block .entry)) ⌝ }
 {
     let mut y = [0u16; 128];
-    transform::small(block, roots, added, &mut y, last);
+    transform::small(block, roots, &mut y, last);
     matrix::permuted_small(matrix::matrix_small(&y))
 }
 
@@ -75,24 +69,17 @@ fn write_small(last: bool, block: &[u8], out: &mut [u32])
     ensures { λ _. ⌜ now (out .exit) ≡ flatten (expanded small last (now (block .entry))) ++ drop 128 (now (out .entry)) ⌝ }
 {
     let roots = transform_tables::roots();
-    let added = transform_tables::added_small(last);
-    let rows = expand_small(block, &roots, &added, last);
+    let rows = expand_small(block, &roots, last);
     output::put_small(rows, out);
 }
 
-// The expanded block. The tables are those of `transform_tables::roots` and `transform_tables::added_large`.
-pub fn expand_large(
-    block: &[u8],
-    roots: &[u16; 512],
-    added: &[u16; 256],
-    last: bool,
-) -> [[u32; 8]; 32]
+// The expanded block. The table is that of `transform_tables::roots`.
+pub fn expand_large(block: &[u8], roots: &[u16; 512], last: bool) -> [[u32; 8]; 32]
     requires { ⌜ (length (now block) ≡ 128) × Roots (now roots) ⌝ }
-    requires { ⌜ now added ≡ table 256 (λ i. addedTo large last i % 257) ⌝ }
     ensures { λ r. ⌜ r ≡ expanded large last (now (block .entry)) ⌝ }
 {
     let mut y = [0u16; 256];
-    transform::large(block, roots, added, &mut y, last);
+    transform::large(block, roots, &mut y, last);
     matrix::permuted_large(matrix::matrix_large(&y))
 }
 
@@ -102,8 +89,7 @@ fn write_large(last: bool, block: &[u8], out: &mut [u32])
     ensures { λ _. ⌜ now (out .exit) ≡ flatten (expanded large last (now (block .entry))) ++ drop 256 (now (out .entry)) ⌝ }
 {
     let roots = transform_tables::roots();
-    let added = transform_tables::added_large(last);
-    let rows = expand_large(block, &roots, &added, last);
+    let rows = expand_large(block, &roots, last);
     output::put_large(rows, out);
 }
 

@@ -1,2 +1,2 @@
--- What the contracts of this crate cite beside the definitions of SIMD and of lists of zeros.
-pub mod Numbers
+-- What the contracts of this crate cite beside numbers in bytes and lists of zeros.
+pub mod Head

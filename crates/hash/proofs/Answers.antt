@@ -10,30 +10,43 @@ use borrow.Rule.Slice.PartMut.{postOf}
 use lib.Dec.{leb}
 use lib.ListN.{length, take, drop, length-take}
 use lib.Seq.{take-all}
-use Rattle.simd.specs.Basic.{Family, small, large, familyOf, isWidth, blockBytes, blockBits, stateWords, bytesOf, wordsOf, table}
+use Rattle.simd.specs.Basic.{Family, small, large, familyOf, isWidth, blockBytes, blockBits, stateWords, bytesOf, wordsOf, table, digestBytes}
 use Rattle.simd.specs.Constants.{start}
 use Rattle.simd.specs.Message.{bitsOf, byteOf, message, messageBlocks, lengthBlock}
 use Rattle.simd.specs.Steps.{compression}
 use Rattle.simd.specs.Hash.{chain, compressions}
 use Rattle.laws.proofs.Chain.{length-compression}
 use Rattle.laws.proofs.LittleEndian.{length-bytesOf}
-use Rattle.tail.specs.Zero.{padded}
-use Rattle.form.specs.Numbers.{littleEndian, formWidth, formBits}
-use Rattle.form.proofs.Writing.{state-bytes}
-use Rattle.hash.specs.Open.{family, used, reached, pending, holding, legal, openRefusal, opened, openAnswer, fullBlocks, advanced, pieceRefusal, feedRefusal, fed, feedAnswer, finalOf, digestOf, takeRefusal, taken, takeAnswer, written}
+use Rattle.bits.specs.Zero.{padded}
+use Rattle.little_endian.specs.Numbers.{littleEndian}
+use Rattle.form.specs.Head.{formWidth, formBits, lengthBytes, headBytes}
+use Rattle.little_endian.proofs.Writing.{state-bytes}
+use Rattle.hash_parts.specs.Legal.{legalParts}
+use Rattle.hash.specs.Open.{family, used, reached, pending, holding, legal, openRefusal, opened, openAnswer, fullBlocks, advanced}
+use Rattle.hash.specs.Open.{pieceRefusal, feedRefusal, fed, feedAnswer, finalOf, digestOf, takeRefusal, taken, takeAnswer, written}
 use Rattle.hash.specs.Form.{formBytes, formOf, formFamily, hashOf, storeRefusal, storeAnswer, restoreRefusal, restoreAnswer}
-use Rattle.tail.specs.Shift.{Ready, joinedBits}
+use Rattle.advance.specs.Joined.{Ready, joinedBits}
 use Rattle.hash.specs.declared.Hash.{Hash}
-use Rattle.tail.proofs.Zeros.{padded-take}
+use Rattle.bits.proofs.Zeros.{padded-take}
 use Rattle.tail.proofs.Sizes.{words-within}
-use Rattle.tail.proofs.Parts.{back}
 use Rattle.tail.proofs.Closing.{front-bits}
 use Rattle.hash.proofs.Holding.{legal-width, legal-state, legal-tail, length-reached}
 use Rattle.hash.proofs.Feeding.{length-message}
-use Rattle.hash.proofs.Refusing.{passed, Accepted, accepted, written-refused}
+use Rattle.hash_parts.proofs.Refusing.{passed}
+use Rattle.hash.proofs.Refusing.{Accepted, accepted, written-refused}
 use Rattle.hash.proofs.Digests.{digest-room, digest-length}
 
 -- Refusals.
+pub take-refusal : (h : Hash) (out : List ℕ) (k r : ℕ) → k ≡ digestBytes (h .width)
+    → r ≡ cond (legalParts (h .width) (h .bits) (h .state) (h .tail)) (cond (leb k (length out)) 0 6) 5 → r ≡ takeRefusal h out
+unfolding takeRefusal legal
+take-refusal h out k r sized same = same ∙ ap (λ (n : ℕ). cond (legal h) (cond (leb n (length out)) 0 6) 5) sized
+
+pub store-refusal : (h : Hash) (out : List ℕ) (k r : ℕ) → k ≡ formBytes (family h)
+    → r ≡ cond (legalParts (h .width) (h .bits) (h .state) (h .tail)) (cond (leb k (length out)) 0 6) 5 → r ≡ storeRefusal h out
+unfolding storeRefusal legal
+store-refusal h out k r sized same = same ∙ ap (λ (n : ℕ). cond (legal h) (cond (leb n (length out)) 0 6) 5) sized
+
 fed-refused : (r : ℕ) (h : Hash) (m : List ℕ) → (r ≡ 0 → ⊥) → record { hash = h; blocks = 0; refusal = r } ≡ fed r h m
 unfolding fed
 fed-refused zero h m some = absurd (some refl)
@@ -98,12 +111,13 @@ used-below : (f : Family) (n : ℕ) → n % blockBits f < blockBits f
 used-below small n = omega arith
 used-below large n = omega arith
 
-module _ (h : Hash) (piece : List ℕ) (count : ℕ) (a : Accepts h piece count) where
-  bytes-used : (count + 7) / 8 - 0 ≡ (count + 7) / 8
-  bytes-used = sub-zero ((count + 7) / 8)
+-- The piece is cut to b bytes.
+module _ (h : Hash) (piece : List ℕ) (count : ℕ) (a : Accepts h piece count) (b : ℕ) (cut : b ≡ (count + 7) / 8) where
+  bytes-used : b - 0 ≡ (count + 7) / 8
+  bytes-used = sub-zero b ∙ cut
 
   pub ready : (n : ℕ) → n ≡ used h → length (h .state) ≡ 32 → length (h .tail) ≡ 128
-      → Ready (h .width) n (h .state) (h .tail) (take ((count + 7) / 8 - 0) piece) count
+      → Ready (h .width) n (h .state) (h .tail) (take (b - 0) piece) count
   ready n same words bytes =
       record {
         words = words;
@@ -111,26 +125,29 @@ module _ (h : Hash) (piece : List ℕ) (count : ℕ) (a : Accepts h piece count)
         below = rw same (used-below (family h) (h .bits));
         state-clear = legal-state h (a .good);
         tail-clear = rw same (legal-tail h (a .good));
-        source = omega (arith, length-take ((count + 7) / 8 - 0) piece, a .whole .within);
+        source = omega (arith, length-take (b - 0) piece, a .whole .within);
         source-clear = rw bytes-used (a .whole .clean);
         short = omega (arith, a .whole .short);
       }
 
   -- The bits of the bytes used are the piece's.
-  piece-bits : take count (bitsOf (take ((count + 7) / 8 - 0) piece)) ≡ message piece count
+  piece-bits : take count (bitsOf (take (b - 0) piece)) ≡ message piece count
   unfolding message
   piece-bits = ap (λ (n : ℕ). take count (bitsOf (take n piece))) bytes-used ∙ front-bits piece count (a .whole .within)
 
   pub feed-answered : (n r : ℕ) → n ≡ used h → r ≡ feedRefusal h piece count → r ≡ 0 → (state′ tail′ : List ℕ) (blocks : ℕ)
-      → state′ ≡ padded 32 (chain (family h) (take (stateWords (family h)) (h .state)) (joinedBits n (h .tail) (take ((count + 7) / 8 - 0) piece) count) ((n + count) / blockBits (family h)))
-      → tail′ ≡ table 128 (byteOf (drop (blockBits (family h) * ((n + count) / blockBits (family h))) (joinedBits n (h .tail) (take ((count + 7) / 8 - 0) piece) count)))
+      → state′ ≡ padded 32 (chain (family h) (take (stateWords (family h)) (h .state)) (joinedBits n (h .tail) (take (b - 0) piece) count)
+      ((n + count) / blockBits (family h)))
+      → tail′ ≡ table 128 (byteOf (drop (blockBits (family h) * ((n + count) / blockBits (family h)))
+      (joinedBits n (h .tail) (take (b - 0) piece) count)))
       → blocks ≡ (n + count) / blockBits (family h)
-      → record { hash = record { width = h .width; bits = h .bits + count; state = state′; tail = tail′ }; blocks = blocks; refusal = 0 } ≡ feedAnswer h piece count
+      → record { hash = record { width = h .width; bits = h .bits + count; state = state′; tail = tail′ }; blocks = blocks; refusal = 0 }
+      ≡ feedAnswer h piece count
   unfolding feedAnswer fed advanced fullBlocks holding reached pending joinedBits
   feed-answered n r same refuses none state′ tail′ blocks stated left counted =
       let f = family h in
       let size = length-message piece count (a .whole .within) in
-      let joined : joinedBits n (h .tail) (take ((count + 7) / 8 - 0) piece) count ≡ pending h ++ message piece count =
+      let joined : joinedBits n (h .tail) (take (b - 0) piece) count ≡ pending h ++ message piece count =
       λ i. take (same i) (bitsOf (h .tail)) ++ piece-bits i in
       let full : (n + count) / blockBits f ≡ (used h + length (message piece count)) / blockBits f = λ i. (same i + sym size i) / blockBits f in
       let total : h .bits + count ≡ h .bits + length (message piece count) = ap (λ (m : ℕ). h .bits + m) (sym size) in
@@ -143,42 +160,46 @@ module _ (h : Hash) (piece : List ℕ) (count : ℕ) (a : Accepts h piece count)
       })
 
 -- Taken.
-pub take-facts : (h : Hash) (out : List ℕ) (r : ℕ) → r ≡ takeRefusal h out → r ≡ 0 → (legal h ≡ true) × (h .width / 8 ≤ length out)
+pub take-facts : (h : Hash) (out : List ℕ) (r : ℕ) → r ≡ takeRefusal h out → r ≡ 0 → (legal h ≡ true) × (digestBytes (h .width) ≤ length out)
 unfolding takeRefusal
 take-facts h out r same none =
-    let room = leb (h .width / 8) (length out) in
+    let room = leb (digestBytes (h .width)) (length out) in
     let first = passed (legal h) (cond room 0 6) 4 (sym same ∙ none) in
-    (first .0, leb-true (h .width / 8) (length out) (passed room 0 5 (first .1) .0))
+    (first .0, leb-true (digestBytes (h .width)) (length out) (passed room 0 5 (first .1) .0))
 
 -- A front of n bytes written into a buffer.
 pub front-written : (n : ℕ) (bytes out : List ℕ) → length bytes ≡ n → bytes ++ postOf 0 (n - 0) out ≡ written 0 bytes out
 unfolding written
 front-written n bytes out size = ap (λ (k : ℕ). bytes ++ drop k out) (sub-zero n ∙ sym size)
 
-words-above : (h : Hash) → legal h ≡ true → h .width / 8 ≤ 4 * stateWords (family h)
+words-above : (h : Hash) → legal h ≡ true → digestBytes (h .width) ≤ 4 * stateWords (family h)
 words-above h good = digest-room (h .width) (legal-width h good)
 
-pub take-answered : (h : Hash) (out : List ℕ) (r : ℕ) → r ≡ takeRefusal h out → r ≡ 0 → (state′ bytes : List ℕ) (blocks : ℕ)
+pub take-answered : (h : Hash) (out : List ℕ) (r : ℕ) → r ≡ takeRefusal h out → r ≡ 0 → (k : ℕ) → k ≡ digestBytes (h .width)
+    → (state′ bytes : List ℕ) (blocks : ℕ)
     → state′ ≡ padded 32 (compression (family h) true
-    (chain (family h) (take (stateWords (family h)) (h .state)) (take (used h) (bitsOf (h .tail))) (messageBlocks (family h) (used h))) (lengthBlock (family h) (h .bits)))
+    (chain (family h) (take (stateWords (family h)) (h .state)) (take (used h) (bitsOf (h .tail))) (messageBlocks (family h) (used h)))
+    (lengthBlock (family h) (h .bits)))
     → blocks ≡ compressions (family h) (used h)
-    → bytes ≡ take (length (take (h .width / 8 - 0) out)) (bytesOf state′)
+    → bytes ≡ take (length (take (k - 0) out)) (bytesOf state′)
     → (record { hash = h; blocks = blocks; refusal = 0 } ≡ takeAnswer h out)
-    × (bytes ++ postOf 0 (h .width / 8 - 0) out ≡ written (takeRefusal h out) (digestOf h) out)
+    × (bytes ++ postOf 0 (k - 0) out ≡ written (takeRefusal h out) (digestOf h) out)
 unfolding takeAnswer taken digestOf finalOf reached pending
-take-answered h out r same none state′ bytes blocks stated counted wrote =
+take-answered h out r same none k sized state′ bytes blocks stated counted wrote =
     let facts = take-facts h out r same none in
     let zero-refusal = sym same ∙ none in
-    let n = h .width / 8 in
-    let size : length (take (n - 0) out) ≡ n = omega (arith, length-take (n - 0) out, facts .1) in
-    let words = length-compression (family h) true
-    (chain (family h) (take (stateWords (family h)) (h .state)) (take (used h) (bitsOf (h .tail))) (messageBlocks (family h) (used h))) (lengthBlock (family h) (h .bits)) in
+    let n = digestBytes (h .width) in
+    let f = family h in
+    let size : length (take (k - 0) out) ≡ n = omega (arith, length-take (k - 0) out, facts .1) in
+    let before = chain f (take (stateWords f) (h .state)) (take (used h) (bitsOf (h .tail))) (messageBlocks f (used h)) in
+    let words = length-compression f true before (lengthBlock f (h .bits)) in
     let digest : bytes ≡ digestOf h =
     wrote
     ∙ (λ i. take (size i) (bytesOf (stated i)))
-    ∙ state-bytes n (finalOf h) (omega (arith, words, words-above h (facts .0))) (omega (arith, words, words-within (family h))) in (
+    ∙ state-bytes n (finalOf h) (omega (arith, words, words-above h (facts .0))) (omega (arith, words, words-within f)) in
+    let long = ap length digest ∙ digest-length h (facts .0) ∙ sym sized in (
       rw zero-refusal (λ i. record { hash = h; blocks = counted i; refusal = 0 }),
-      rw zero-refusal (front-written n bytes out (ap length digest ∙ digest-length h (facts .0)) ∙ ap (λ (b : List ℕ). written 0 b out) digest),
+      rw zero-refusal (front-written k bytes out long ∙ ap (λ (b : List ℕ). written 0 b out) digest),
     )
 
 -- Stored.
@@ -189,13 +210,14 @@ store-facts h out r same none =
     let first = passed (legal h) (cond room 0 6) 4 (sym same ∙ none) in
     (first .0, leb-true (formBytes (family h)) (length out) (passed room 0 5 (first .1) .0))
 
-pub store-answered : (h : Hash) (out : List ℕ) (r : ℕ) → r ≡ storeRefusal h out → r ≡ 0 → length (h .state) ≡ 32 → length (h .tail) ≡ 128 → (size : ℕ) → size ≡ blockBytes (family h) → (bytes : List ℕ)
-    → bytes ≡ littleEndian 2 (h .width) ++ littleEndian 4 (h .bits) ++ take size (bytesOf (h .state)) ++ take size (h .tail)
-    → length bytes ≡ 6 + 2 * size
+pub store-answered : (h : Hash) (out : List ℕ) (r : ℕ) → r ≡ storeRefusal h out → r ≡ 0 → length (h .state) ≡ 32 → length (h .tail) ≡ 128
+    → (size k : ℕ) → size ≡ blockBytes (family h) → k ≡ formBytes (family h) → (bytes : List ℕ)
+    → bytes ≡ littleEndian 2 (h .width) ++ littleEndian lengthBytes (h .bits) ++ take size (bytesOf (h .state)) ++ take size (h .tail)
+    → length bytes ≡ k
     → (record { hash = h; refusal = 0 } ≡ storeAnswer h out)
-    × (bytes ++ postOf 0 (6 + 2 * size - 0) out ≡ written (storeRefusal h out) (formOf h) out)
+    × (bytes ++ postOf 0 (k - 0) out ≡ written (storeRefusal h out) (formOf h) out)
 unfolding storeAnswer formOf reached
-store-answered h out r same none words long size block bytes wrote count =
+store-answered h out r same none words long size k block whole bytes wrote count =
     let good = store-facts h out r same none .0 in
     let f = family h in
     let w = take (stateWords f) (h .state) in
@@ -206,10 +228,10 @@ store-answered h out r same none words long size block bytes wrote count =
     ∙ state-bytes size w (omega (arith, count-words)) (omega (arith, count-words, words-within f))
     ∙ take-all size (bytesOf w) (omega (arith, count-words, length-bytesOf w)) in
     let form : bytes ≡ formOf h =
-    wrote ∙ λ i. littleEndian 2 (h .width) ++ littleEndian 4 (h .bits) ++ state i ++ take (block i) (h .tail) in
+    wrote ∙ λ i. littleEndian 2 (h .width) ++ littleEndian lengthBytes (h .bits) ++ state i ++ take (block i) (h .tail) in
     let zero-refusal = sym same ∙ none in (
       (λ i. record { hash = h; refusal = (sym none ∙ same) i }),
-      rw zero-refusal (front-written (6 + 2 * size) bytes out count ∙ ap (λ (b : List ℕ). written 0 b out) form),
+      rw zero-refusal (front-written k bytes out count ∙ ap (λ (b : List ℕ). written 0 b out) form),
     )
 
 -- Restored.
@@ -218,13 +240,13 @@ block-size form width size wide block = block ∙ ap (λ (w : ℕ). blockBytes (
 
 pub restore-answered : (form : List ℕ) (r : ℕ) → r ≡ restoreRefusal form → r ≡ 0 → (width bits size : ℕ) (state tail : List ℕ)
     → width ≡ formWidth form → bits ≡ formBits form → size ≡ blockBytes (familyOf width)
-    → state ≡ padded 32 (wordsOf (size / 4) (drop 6 form)) → tail ≡ padded 128 (take (length form - (6 + size)) (drop (6 + size) form))
+    → state ≡ padded 32 (wordsOf (size / 4) (drop headBytes form)) → tail ≡ padded 128 (drop (headBytes + size) form)
     → record { hash = record { width = width; bits = bits; state = state; tail = tail }; refusal = 0 } ≡ restoreAnswer form
 unfolding restoreAnswer opened hashOf
 restore-answered form r same none width bits size state tail wide length-read block words rest =
     let whole = block-size form width size wide block in
     let quarter : size / 4 ≡ stateWords (formFamily form) = omega arith in
-    let state-read = words ∙ ap (λ (n : ℕ). padded 32 (wordsOf n (drop 6 form))) quarter in
-    let tail-read = rest ∙ ap (padded 128) (back (6 + size) form) ∙ ap (λ (n : ℕ). padded 128 (drop (6 + n) form)) whole in
+    let state-read = words ∙ ap (λ (n : ℕ). padded 32 (wordsOf n (drop headBytes form))) quarter in
+    let tail-read = rest ∙ ap (λ (n : ℕ). padded 128 (drop (headBytes + n) form)) whole in
     rw (sym same ∙ none)
     (λ i. record { hash = record { width = wide i; bits = length-read i; state = state-read i; tail = tail-read i }; refusal = 0 })

@@ -1,16 +1,18 @@
--- The open hash. It stands for a state after all full blocks and for the bits behind them, fewer than a block: what follows is worked out
--- from these two and the bit length, whether or not a message reaches them.
-use mathlib.Core.Bool.{Bool, true, cond, _&&_}
+-- The open hash, elsewhere a hashing context. It stands for a state after all full blocks (the chaining value) and for the bits behind them,
+-- fewer than a block: the tail, elsewhere the buffered partial block. What follows is worked out from these two and the bit length, whether or
+-- not a message reaches them. To open, feed a piece and take are elsewhere init, update with a part of the input, and final.
+use mathlib.Core.Bool.{Bool, true, cond}
 use mathlib.Core.List.{List, [], _++_}
 use Prim.Native.Nat.{ℕ, zero, suc, _+_, _*_, _-_, _/_, _%_, _^_}
 use lib.Dec.{leb}
 use lib.ListN.{length, take, drop}
-use Rattle.simd.specs.Basic.{Family, familyOf, isWidth, blockBits, stateWords, bytesOf, table}
+use Rattle.simd.specs.Basic.{Family, familyOf, isWidth, blockBits, digestBytes, stateWords, bytesOf, table}
 use Rattle.simd.specs.Constants.{start}
 use Rattle.simd.specs.Message.{bitsOf, byteOf, message, messageBlocks, lengthBlock}
 use Rattle.simd.specs.Steps.{compression}
 use Rattle.simd.specs.Hash.{chain, compressions}
-use Rattle.tail.specs.Zero.{allZero, clear, padded}
+use Rattle.bits.specs.Zero.{clear, padded}
+use Rattle.hash_parts.specs.Legal.{legalParts}
 use Rattle.hash.specs.declared.Hash.{Hash}
 use Rattle.hash.specs.declared.Opened.{Opened}
 use Rattle.hash.specs.declared.Fed.{Fed}
@@ -40,8 +42,7 @@ holding width bits state tail = record { width = width; bits = bits; state = pad
 
 -- Whether a hash is one of the four widths with no bit set past the family's state, block or tail.
 unfoldable pub legal : Hash → Bool
-legal h =
-    isWidth (h .width) && (allZero (drop (stateWords (family h)) (h .state)) && clear (used h) (h .tail))
+legal h = legalParts (h .width) (h .bits) (h .state) (h .tail)
 
 -- Open: 1 where the width is none of the four.
 unfoldable pub openRefusal : ℕ → ℕ
@@ -91,11 +92,11 @@ finalOf h =
     (lengthBlock (family h) (h .bits))
 
 unfoldable pub digestOf : Hash → List ℕ
-digestOf h = take (h .width / 8) (bytesOf (finalOf h))
+digestOf h = take (digestBytes (h .width)) (bytesOf (finalOf h))
 
 -- 6 where the buffer lent is too short.
 unfoldable pub takeRefusal : Hash → List ℕ → ℕ
-takeRefusal h out = cond (legal h) (cond (leb (h .width / 8) (length out)) 0 6) 5
+takeRefusal h out = cond (legal h) (cond (leb (digestBytes (h .width)) (length out)) 0 6) 5
 
 unfoldable pub taken : ℕ → Hash → Taken
 taken zero h = record { hash = h; blocks = compressions (family h) (used h); refusal = 0 }

@@ -2,17 +2,17 @@
 // answer. `refusal` is 0 where nothing is refused, and otherwise the number of what was; then the hash comes back as it was handed over,
 // or all zeros where none was (open, restore), no buffer is written to, and the rest of the answer is 0.
 
+ghost use mathlib.Core.Bool.{cond};
 ghost use mathlib.Core.Path.{_≡_};
 ghost use mathlib.Core.List.{[]};
 ghost use Rattle.simd.specs.Basic.{table};
-ghost use Rattle.simd.specs.Constants.{start};
 ghost use Rattle.simd.specs.Message.{byteOf};
-ghost use Rattle.tail.specs.Zero.{padded};
-ghost use Rattle.hash.specs.Open.{holding, legal, openAnswer, pieceRefusal, feedRefusal, feedAnswer, digestOf, takeRefusal, takeAnswer, written};
-ghost use Rattle.hash.specs.Form.{formOf, storeRefusal, storeAnswer, restoreRefusal, restoreAnswer};
+ghost use Rattle.hash_parts.specs.Legal.{legalParts};
+ghost use Rattle.hash.specs.Open.{holding, openAnswer, pieceRefusal, feedAnswer, digestOf, takeRefusal, takeAnswer, written};
+ghost use Rattle.hash.specs.Form.{formOf, storeRefusal, storeAnswer, restoreAnswer};
 
 // The longest message, in bits.
-const LIMIT: usize = 4294967295;
+const LIMIT: u64 = 4294967295;
 
 // The words past the family's state and the bits past the tail are 0.
 pub struct Hash {
@@ -45,97 +45,32 @@ pub struct Stored {
     pub refusal: u8,
 }
 
-// Whether a hash is one of the four widths with no bit set past the family's state, block or tail.
-fn is_legal(hash: Hash) -> bool
-    ensures { λ r. ⌜ r ≡ legal hash ⌝ }
-{
-    let width = hash.width;
-    let bits = hash.bits;
-    let state = hash.state;
-    let tail = hash.tail;
-    if !expansion::is_width(width) {
-        return false;
-    }
-    if !tail::words_zero(&state, tail::block_bytes(width) / 4) {
-        return false;
-    }
-    tail::bits_zero(&tail, tail::used_bits(width, bits))
-}
-
 // The number of a piece's refusal after so many bits, or 0.
-pub fn piece_refusal(bits: u32, piece: &[u8], count: usize) -> u8
+pub fn piece_refusal(bits: u64, piece: &[u8], count: usize) -> u8
     ensures { λ r. ⌜ r ≡ pieceRefusal bits (now (piece .entry)) count ⌝ }
 {
-    let bytes = count / 8 + (count % 8 + 7) / 8;
+    let bytes = bits::bytes_of_bits(count);
     if piece.len() < bytes {
         return 2;
     }
-    if !tail::bits_zero(&piece[0..bytes], count) {
+    if !bits::bits_zero(&piece[0..bytes], count) {
         return 3;
     }
-    if LIMIT - (bits as usize) < count {
+    if LIMIT < bits {
+        return 4;
+    }
+    if LIMIT - bits < count as u64 {
         return 4;
     }
     0
 }
 
-fn feed_refusal(hash: Hash, piece: &[u8], count: usize) -> u8
-    ensures { λ r. ⌜ r ≡ feedRefusal hash (now (piece .entry)) count ⌝ }
+// The same for a hash of these parts.
+fn feed_refusal(width: u16, bits: u64, state: &[u32], tail: &[u8], piece: &[u8], count: usize) -> u8
+    ensures { λ r. ⌜ r ≡ cond (legalParts width bits (now (state .entry)) (now (tail .entry))) (pieceRefusal bits (now (piece .entry)) count) 5 ⌝ }
 {
-    let bits = hash.bits;
-    if is_legal(hash) {
+    if hash_parts::is_legal(width, bits, state, tail) {
         piece_refusal(bits, piece, count)
-    } else {
-        5
-    }
-}
-
-// The answer to a piece that is refused.
-fn not_fed(hash: Hash, refusal: u8) -> Fed
-    ensures { λ r. ⌜ (r .hash ≡ hash) × (r .blocks ≡ 0) × (r .refusal ≡ refusal) ⌝ }
-{
-    let width = hash.width;
-    let bits = hash.bits;
-    let state = hash.state;
-    let kept = hash.tail;
-    let hash = Hash {
-        width,
-        bits,
-        state,
-        tail: kept,
-    };
-    Fed {
-        hash,
-        blocks: 0,
-        refusal,
-    }
-}
-
-fn take_refusal(hash: Hash, out: &[u8]) -> u8
-    ensures { λ r. ⌜ r ≡ takeRefusal hash (now (out .entry)) ⌝ }
-{
-    let width = hash.width;
-    if is_legal(hash) {
-        if (width / 8) as usize <= out.len() {
-            0
-        } else {
-            6
-        }
-    } else {
-        5
-    }
-}
-
-fn store_refusal(hash: Hash, out: &[u8]) -> u8
-    ensures { λ r. ⌜ r ≡ storeRefusal hash (now (out .entry)) ⌝ }
-{
-    let width = hash.width;
-    if is_legal(hash) {
-        if 6 + 2 * tail::block_bytes(width) <= out.len() {
-            0
-        } else {
-            6
-        }
     } else {
         5
     }
@@ -158,54 +93,13 @@ fn no_tail() -> [u8; 128]
     [0u8; 128]
 }
 
-// The starting state of a width.
-pub fn start_state(width: u16) -> [u32; 32]
-    ensures { λ r. ⌜ r ≡ padded 32 (start width) ⌝ }
-{
-    if width == 224 {
-        return tail::widen(compression::start_224());
-    }
-    if width == 256 {
-        return tail::widen(compression::start_256());
-    }
-    if width == 384 {
-        return compression::start_384();
-    }
-    compression::start_512()
-}
-
-fn restore_refusal(form: &[u8]) -> u8
-    ensures { λ r. ⌜ r ≡ restoreRefusal (now (form .entry)) ⌝ }
-{
-    let length = form.len();
-    if length < 2 {
-        return 8;
-    }
-    let width = form::read_width(form);
-    if !expansion::is_width(width) {
-        return 1;
-    }
-    let middle = 6 + tail::block_bytes(width);
-    if length != middle + tail::block_bytes(width) {
-        return 8;
-    }
-    if tail::bits_zero(
-        &form[middle..length],
-        tail::used_bits(width, form::read_word(form, 2)),
-    ) {
-        0
-    } else {
-        9
-    }
-}
-
 impl Hash {
     // Opens a hash at a width. Refusal 1.
     pub fn open(width: u16) -> Opened
         ensures { λ r. ⌜ r ≡ openAnswer width ⌝ }
     {
         if expansion::is_width(width) {
-            let state = start_state(width);
+            let state = hash_parts::start_state(width);
             let tail = no_tail();
             let hash = Hash {
                 width,
@@ -223,24 +117,22 @@ impl Hash {
     pub fn feed(mut self, piece: &[u8], count: usize) -> Fed
         ensures { λ r. ⌜ r ≡ feedAnswer self (now (piece .entry)) count ⌝ }
     {
-        let refusal = feed_refusal(self, piece, count);
-        if refusal != 0 {
-            return not_fed(self, refusal);
-        }
         let width = self.width;
-        let bits = self.bits;
+        let bits = self.bits as u64;
         let mut state = self.state;
         let mut tail = self.tail;
-        let bytes = (count + 7) / 8;
-        let full = tail::advance(
-            width,
-            tail::used_bits(width, bits),
-            &mut state,
-            &mut tail,
-            &piece[0..bytes],
-            count,
-        );
-        self.bits = (bits as usize + count) as u32;
+        let refusal = feed_refusal(width, bits, &state, &tail, piece, count);
+        if refusal != 0 {
+            return Fed {
+                hash: self,
+                blocks: 0,
+                refusal,
+            };
+        }
+        let bytes = bits::bytes_of_bits(count);
+        let used = tail::used_bits(width, bits);
+        let full = advance::advance(width, used, &mut state, &mut tail, &piece[0..bytes], count);
+        self.bits = (bits + count as u64) as u32;
         self.state = state;
         self.tail = tail;
         Fed {
@@ -255,7 +147,12 @@ impl Hash {
         ensures { λ r. ⌜ (r ≡ takeAnswer self (now (out .entry)))
             × (now (out .exit) ≡ written (takeRefusal self (now (out .entry))) (digestOf self) (now (out .entry))) ⌝ }
     {
-        let refusal = take_refusal(self, out);
+        let width = self.width;
+        let bits = self.bits as u64;
+        let mut state = self.state;
+        let tail = self.tail;
+        let length = tail::digest_bytes(width);
+        let refusal = hash_parts::output_refusal(width, bits, &state, &tail, length, out.len());
         if refusal != 0 {
             return Taken {
                 hash: self,
@@ -263,13 +160,8 @@ impl Hash {
                 refusal,
             };
         }
-        let width = self.width;
-        let bits = self.bits;
-        let mut state = self.state;
-        let tail = self.tail;
         let compressed = tail::close(width, bits, &mut state, &tail);
-        let length = (width / 8) as usize;
-        form::write_words(&mut out[0..length], state);
+        little_endian::write_words(&mut out[0..length], state);
         Taken {
             hash: self,
             blocks: compressed,
@@ -282,19 +174,19 @@ impl Hash {
         ensures { λ r. ⌜ (r ≡ storeAnswer self (now (out .entry)))
             × (now (out .exit) ≡ written (storeRefusal self (now (out .entry))) (formOf self) (now (out .entry))) ⌝ }
     {
-        let refusal = store_refusal(self, out);
+        let width = self.width;
+        let bits = self.bits as u64;
+        let state = self.state;
+        let tail = self.tail;
+        let length = hash_parts::form_bytes(width);
+        let refusal = hash_parts::output_refusal(width, bits, &state, &tail, length, out.len());
         if refusal != 0 {
             return Stored {
                 hash: self,
                 refusal,
             };
         }
-        let width = self.width;
-        let bits = self.bits;
-        let state = self.state;
-        let tail = self.tail;
         let size = tail::block_bytes(width);
-        let length = 6 + 2 * size;
         form::write_form(width, bits, state, &tail, size, &mut out[0..length]);
         Stored {
             hash: self,
@@ -306,18 +198,16 @@ impl Hash {
     pub fn restore(form: &[u8]) -> Opened
         ensures { λ r. ⌜ r ≡ restoreAnswer (now (form .entry)) ⌝ }
     {
-        let refusal = restore_refusal(form);
+        let refusal = hash_parts::restore_refusal(form);
         if refusal != 0 {
             let hash = zero_hash();
             return Opened { hash, refusal };
         }
         let width = form::read_width(form);
-        let bits = form::read_word(form, 2);
+        let bits = form::read_bits(form);
         let size = tail::block_bytes(width);
         let state = form::read_state(form, size / 4);
-        let middle = 6 + size;
-        let end = form.len();
-        let tail = form::read_tail(&form[middle..end]);
+        let tail = form::read_tail(form, form::HEAD_BYTES + size);
         let hash = Hash {
             width,
             bits,

@@ -1,1 +1,4 @@
+pub mod Held
+pub mod Advanced
+pub mod Storing
 pub mod Theorems

@@ -10,24 +10,29 @@ use lib.Dec.{eqb, eqb·suc-zero}
 use lib.ListN.{length, getD, take, drop, length-take, length-append, List·getD-eq-default}
 use lib.Seq.{take-all, getD-take, ext-getD}
 use native.Mathlib.Decide.{decLt}
-use Rattle.simd.specs.Basic.{Family, small, large, familyOf, isWidth, blockBits, bytesOf, table}
+use Rattle.simd.specs.Basic.{Family, small, large, familyOf, isWidth, blockBits, bytesOf, table, digestBytes}
 use Rattle.simd.specs.Constants.{start}
 use Rattle.simd.specs.Message.{bitsOf, byteOf, message, messageBlocks, lengthBlock}
 use Rattle.simd.specs.Steps.{compression}
 use Rattle.simd.specs.Hash.{chain, final, finalState, digest, compressions}
 use Rattle.laws.proofs.Table.{length-table}
 use Rattle.laws.proofs.Bits.{Bits, bits-append, bitsOf-bytes, length-bitsOf}
-use Rattle.tail.specs.Zero.{allZero, clear}
-use Rattle.hash.specs.Open.{limit, family, used, reached, pending, holding, legal, openRefusal, opened, openAnswer, fullBlocks, advanced, feedAnswer, finalOf, digestOf, takeRefusal, taken, takeAnswer, written}
+use Rattle.bits.specs.Zero.{allZero, clear}
+use Rattle.hash.specs.Open.{limit, family, used, reached, pending, holding, legal, openRefusal, opened, openAnswer}
+use Rattle.hash.specs.Open.{fullBlocks, advanced, feedAnswer, finalOf, digestOf, takeRefusal, taken, takeAnswer, written}
 use Rattle.hash.specs.declared.Hash.{Hash}
 use Rattle.hash.specs.declared.Opened.{Opened}
 use Rattle.hash.specs.declared.Fed.{Fed}
 use Rattle.hash.specs.Form.{formOf, hashOf, restoreRefusal, restoreAnswer}
-use Rattle.tail.proofs.Zeros.{clear-of}
-use Rattle.hash.proofs.Holding.{Sized, Value, held-state, held-tail, held-legal}
-use Rattle.hash.proofs.Feeding.{Whole, held-sized, advanced-sized, advanced-bits, advanced-legal, advanced-append, advanced-none, blocks-append, none-full, fed-whole, length-message, bits-message, final-advanced, message-blocks, start-length}
+use Rattle.bits.proofs.Zeros.{clear-of}
+use Rattle.hash.proofs.Holding.{Sized, Value}
+use Rattle.hash_theorems.proofs.Held.{held-state, held-tail, held-legal}
+use Rattle.hash.proofs.Feeding.{Whole, fed-whole, length-message, bits-message, start-length}
+use Rattle.hash_theorems.proofs.Advanced.{held-sized, advanced-sized, advanced-bits, advanced-legal, advanced-append}
+use Rattle.hash_theorems.proofs.Advanced.{advanced-none, blocks-append, none-full, final-advanced, message-blocks}
 use Rattle.hash.proofs.Digests.{digest-length}
-use Rattle.hash.proofs.Storing.{form-hash, form-accepted, form-facts, read-legal, read-value, read-form}
+use Rattle.hash_parts.proofs.Accepted.{form-facts}
+use Rattle.hash_theorems.proofs.Storing.{form-hash, form-accepted, read-legal, read-value, read-form}
 
 -- A cutting: pieces, the message that they make, and the answer to feeding them one after the other. Its blocks and its refusal are sums over
 -- the pieces, so that a refusal of 0 says that no piece was refused.
@@ -188,16 +193,16 @@ used-below : (f : Family) (n : ℕ) → n % blockBits f < blockBits f
 used-below small n = omega arith
 used-below large n = omega arith
 
-take-accepted : (h : Hash) (out : List ℕ) → legal h ≡ true → h .width / 8 ≤ length out → takeRefusal h out ≡ 0
+take-accepted : (h : Hash) (out : List ℕ) → legal h ≡ true → digestBytes (h .width) ≤ length out → takeRefusal h out ≡ 0
 unfolding takeRefusal
-take-accepted h out good room = rw (good, le-leb (h .width / 8) (length out) room)
+take-accepted h out good room = rw (good, le-leb (digestBytes (h .width)) (length out) room)
 
-take-whole : (h : Hash) (out : List ℕ) → legal h ≡ true → h .width / 8 ≤ length out
+take-whole : (h : Hash) (out : List ℕ) → legal h ≡ true → digestBytes (h .width) ≤ length out
     → takeAnswer h out ≡ record { hash = h; blocks = compressions (family h) (used h); refusal = 0 }
 unfolding takeAnswer taken
 take-whole h out good room = rw (take-accepted h out good room)
 
-pub take-blocks : (h : Hash) (out : List ℕ) → legal h ≡ true → h .width / 8 ≤ length out
+pub take-blocks : (h : Hash) (out : List ℕ) → legal h ≡ true → digestBytes (h .width) ≤ length out
     → takeAnswer h out ≡ record { hash = h; blocks = cond (eqb (used h) 0) 1 2; refusal = 0 }
 take-blocks h out good room =
     let blocks = one-or-two (family h) (used h) (used-below (family h) (h .bits)) in
@@ -218,7 +223,7 @@ from-any h s good ps whole short =
 pub record Hashed (width : ℕ) (m : List ℕ) (a : Fed) (out : List ℕ) : Type 0 where
   pub accepted : a .refusal ≡ 0
   pub answered : takeAnswer (a .hash) out .refusal ≡ 0
-  pub bytes : written (takeRefusal (a .hash) out) (digestOf (a .hash)) out ≡ digest width m ++ drop (width / 8) out
+  pub bytes : written (takeRefusal (a .hash) out) (digestOf (a .hash)) out ≡ digest width m ++ drop (digestBytes width) out
   pub blocks : a .blocks + takeAnswer (a .hash) out .blocks ≡ compressions (familyOf width) (length m)
 
 -- That hash after bits were fed.

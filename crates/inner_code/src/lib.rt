@@ -39,7 +39,8 @@ fn code(c: u16, y: u16) -> u16
 // The codes of all values, by 185 and by 233: one loop, so that each value is lifted once.
 pub fn codes(y: &[u16], by185: &mut [u16], by233: &mut [u16])
     requires { ⌜ (length (now by185) ≡ length (now y)) × ((length (now by233) ≡ length (now y)) × ((k : ℕ) → getD (now y) k 0 < 257)) ⌝ }
-    ensures { λ _. ⌜ (now (by185 .exit) ≡ table (length (now (y .entry))) (coded 185 (now (y .entry)))) × (now (by233 .exit) ≡ table (length (now (y .entry))) (coded 233 (now (y .entry)))) ⌝ }
+    ensures { λ _. ⌜ (now (by185 .exit) ≡ table (length (now (y .entry))) (coded 185 (now (y .entry))))
+        × (now (by233 .exit) ≡ table (length (now (y .entry))) (coded 233 (now (y .entry)))) ⌝ }
 {
     let mut k: usize = 0;
     while k < y.len() {

@@ -1,11 +1,12 @@
 -- Arithmetic modulo 257, and the laws of `power`.
 use mathlib.Core.Path.{_≡_, refl, sym, ap, _∙_}
 use Prim.Native.Nat.{ℕ, zero, suc, _+_, _*_, _/_, _%_, _<_}
-use native.Mathlib.Nat.{add-zero, add-suc, mul-zero, mul-suc, mul-comm, mul-one, mul-left-comm, mod-lt}
+use native.Mathlib.Nat.{mul-comm}
 use native.Mathlib.Omega.{arith}
-use lib.Dec.{lit<}
 use Rattle.simd.specs.Basic.{sum}
 use Rattle.simd.specs.Expansion.{power}
+use Rattle.simd.proofs.Horner.{power-add as power-sum}
+pub use Rattle.simd.proofs.Horner.{power-lt, power-mul}
 
 -- Two numbers are the same modulo 257. Minus x is written as 256 * x.
 pub record Same (a b : ℕ) : Type 0 where
@@ -63,31 +64,8 @@ pub power-suc : (w e : ℕ) → power w (suc e) ≡ w * power w e % 257
 unfolding power
 power-suc w e = refl
 
-pub power-lt : (w e : ℕ) → power w e < 257
-unfolding power
-power-lt w zero = lit< tt
-power-lt w (suc e) = mod-lt (w * power w e) (lit< tt)
-
 pub power-add : (w m n : ℕ) → Same (power w (m + n)) (power w m * power w n)
-unfolding power
-power-add w m zero = rw add-zero (same-of (sym (mul-one (power w m))))
-power-add w m (suc n) =
-    rw add-suc
-    (same-trans (same-mod (w * power w (m + n)))
-    (same-trans (same-mul (same-refl w) (power-add w m n))
-    (same-trans (same-of (mul-left-comm w (power w m) (power w n)))
-    (same-mul (same-refl (power w m)) (same-sym (same-mod (w * power w n)))))))
-
-pub power-mul : (w m n : ℕ) → power w (m * n) ≡ power (power w m) n
-unfolding power
-power-mul w m zero = rw mul-zero
-power-mul w m (suc n) =
-    rw mul-suc
-    (same-eq
-    (same-trans (power-add w (m * n) m)
-    (same-trans (same-of (mul-comm (power w (m * n)) (power w m) ∙ ap (λ v. power w m * v) (power-mul w m n)))
-    (same-sym (same-mod (power w m * power (power w m) n)))))
-    (power-lt w (m * n + m)) (power-lt (power w m) (suc n)))
+power-add w m n = same-trans (same-of (power-sum w m n)) (same-mod (power w m * power w n))
 
 pub power-one : (e : ℕ) → power 1 e ≡ 1
 unfolding power

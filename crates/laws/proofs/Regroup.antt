@@ -4,13 +4,8 @@ use Prim.Native.Nat.{ℕ, zero, suc, _+_, _*_, _<_, _≤_}
 use native.Mathlib.Nat.{add-zero, zero-add, mul-zero, mul-suc}
 use native.Mathlib.Omega.{arith}
 use Rattle.simd.specs.Basic.{sum}
+pub use Rattle.simd.proofs.Horner.{sum-first}
 use Rattle.laws.proofs.Sum.{sum-ext, sum-append}
-
--- The first term apart.
-pub sum-first : (n : ℕ) (g : ℕ → ℕ) → sum (suc n) g ≡ g 0 + sum n (λ i. g (suc i))
-unfolding sum
-sum-first zero g = omega arith
-sum-first (suc n) g = omega (arith, sum-first n g)
 
 -- Smaller terms, smaller sum.
 pub sum-le : (n : ℕ) (g h : ℕ → ℕ) → ((i : ℕ) → i < n → g i ≤ h i) → sum n g ≤ sum n h

@@ -21,11 +21,11 @@ pub record Fresh (u v : ℕ → ℕ) (n k : ℕ) : Type 0 where
   pub apart : u k ≢ v k
   pub earlier : (j : ℕ) → j < k → (u j ≢ u k) × (u j ≢ v k) × (v j ≢ u k) × (v j ≢ v k)
 
-module _ (P : ℕ → ℕ → ℕ → Type 0) (u v : ℕ → ℕ) (y₀ : List ℕ) where
+module _ {P : ℕ → ℕ → ℕ → Type 0} {u v : ℕ → ℕ} {y₀ : List ℕ} where
   pub stored-none : Stored P u v y₀ y₀ 0
   stored-none = record { size = refl; pairs = λ j h. absurd (omega arith); others = λ p h. refl }
 
-  module _ (y : List ℕ) (k a b : ℕ) (fresh : Fresh u v (length y₀) k) (done : Stored P u v y₀ y k) (here : P k a b) where
+  module _ {y : List ℕ} {k a b : ℕ} (done : Stored P u v y₀ y k) (fresh : Fresh u v (length y₀) k) (here : P k a b) where
     next : List ℕ
     next = set (set y (u k) a) (v k) b
 
@@ -97,24 +97,24 @@ pub record Filled (g u : ℕ → ℕ) (y₀ y : List ℕ) (k : ℕ) : Type 0 whe
   pub filled : (j : ℕ) → j < k → getD y (u j) 0 ≡ g j
   pub others : (p : ℕ) → ((j : ℕ) → j < k → p ≢ u j) → getD y p 0 ≡ getD y₀ p 0
 
-module _ (g u : ℕ → ℕ) (y₀ : List ℕ) where
+module _ {g u : ℕ → ℕ} {y₀ : List ℕ} where
   pub filled-none : Filled g u y₀ y₀ 0
   filled-none = record { size = refl; filled = λ j h. absurd (omega arith); others = λ p h. refl }
 
-  module _ (y : List ℕ) (k : ℕ) (fits : u k < length y₀) (fresh : (j : ℕ) → j < k → u j ≢ u k) (done : Filled g u y₀ y k) where
-    filled-here : getD (set y (u k) (g k)) (u k) 0 ≡ g k
-    filled-here = getD-set-same y (u k) (g k) 0 (omega (arith, done .size))
+  module _ {y : List ℕ} {k a : ℕ} (done : Filled g u y₀ y k) (fits : u k < length y₀) (fresh : (j : ℕ) → j < k → u j ≢ u k) (here : a ≡ g k) where
+    filled-here : getD (set y (u k) a) (u k) 0 ≡ g k
+    filled-here = getD-set-same y (u k) a 0 (omega (arith, done .size)) ∙ here
 
-    filled-before : (j : ℕ) → j < k → getD (set y (u k) (g k)) (u j) 0 ≡ g j
-    filled-before j below = getD-set-other y (u k) (u j) (g k) 0 (fresh j below) ∙ done .filled j below
+    filled-before : (j : ℕ) → j < k → getD (set y (u k) a) (u j) 0 ≡ g j
+    filled-before j below = getD-set-other y (u k) (u j) a 0 (fresh j below) ∙ done .filled j below
 
-    pub filled-more : Filled g u y₀ (set y (u k) (g k)) (k + 1)
+    pub filled-more : Filled g u y₀ (set y (u k) a) (k + 1)
     filled-more =
         record {
-          size = omega (arith, length-set y (u k) (g k), done .size);
+          size = omega (arith, length-set y (u k) a, done .size);
           filled =
               λ j h.
-              ⊎-elim (λ e. subst (λ j. getD (set y (u k) (g k)) (u j) 0 ≡ g j) (sym e) filled-here) (filled-before j)
+              ⊎-elim (λ e. subst (λ j. getD (set y (u k) a) (u j) 0 ≡ g j) (sym e) filled-here) (filled-before j)
               (eq-or-lt-of-le {n = j} {m = k} (omega arith));
-          others = λ p h. getD-set-other y (u k) p (g k) 0 (h k (omega arith)) ∙ done .others p (λ j below. h j (omega arith));
+          others = λ p h. getD-set-other y (u k) p a 0 (h k (omega arith)) ∙ done .others p (λ j below. h j (omega arith));
         }

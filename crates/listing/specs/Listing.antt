@@ -5,7 +5,8 @@ use Prim.Native.Nat.{ℕ, _+_}
 use lib.Dec.{leb, eqb}
 use lib.ListN.{length}
 use Rattle.simd.specs.Hash.{digest}
-use Rattle.text.specs.Text.{over, digestLine, doneLine, refusedLine}
+use Rattle.text.specs.Text.{over}
+use Rattle.lines.specs.Lines.{digestLine, doneLine, refusedLine}
 use Rattle.tape.specs.Run.{closed, Entry, Run, ended, runFrom}
 use Rattle.listing.specs.declared.Line.{Line}
 

@@ -18,7 +18,8 @@ pub struct Line {
 
 // The line from a place at which no hash is open, after so many digests.
 pub fn next_line(tape: &[u8], at: usize, count: u32, text: &mut [u8]) -> Line
-    ensures { λ r. ⌜ (r ≡ lineOf (length (now (text .entry))) count (sealed (now (tape .entry)) at)) × (now (text .exit) ≡ textOf (now (text .entry)) count (sealed (now (tape .entry)) at)) ⌝ }
+    ensures { λ r. ⌜ (r ≡ lineOf (length (now (text .entry))) count (sealed (now (tape .entry)) at))
+        × (now (text .exit) ≡ textOf (now (text .entry)) count (sealed (now (tape .entry)) at)) ⌝ }
 {
     if text.len() < 192 {
         return Line {
@@ -37,7 +38,7 @@ pub fn next_line(tape: &[u8], at: usize, count: u32, text: &mut [u8]) -> Line
         return last(found, count, text);
     };
     let size = wide(width / 8);
-    let length = text::digest_line(text, above(count), width, &digest[..size]);
+    let length = lines::digest_line(text, above(count), width, &digest[..size]);
     Line {
         refusal: 0,
         length: length,
@@ -75,9 +76,9 @@ fn ending(number: u8, place: usize, count: u32, text: &mut [u8]) -> usize
     ensures { λ r. ⌜ (r ≡ length (lastLine count number place)) × (now (text .exit) ≡ over (now (text .entry)) 0 (lastLine count number place)) ⌝ }
 {
     if number == 0 {
-        return text::done_line(text, count as usize);
+        return lines::done_line(text, count as usize);
     }
-    text::refused_line(text, number, place)
+    lines::refused_line(text, number, place)
 }
 
 fn wide(x: u16) -> usize

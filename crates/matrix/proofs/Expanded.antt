@@ -12,7 +12,8 @@ use Rattle.simd.specs.Basic.{Family, rows, table}
 use Rattle.simd.specs.Constants.{order}
 use Rattle.simd.specs.Expansion.{transform, pair, matrix, expanded}
 use Rattle.laws.proofs.Table.{getD-table, table-ext}
-use Rattle.matrix.specs.Layers.{flat, row}
+use Rattle.matrix_words.specs.Layers.{flat}
+use Rattle.matrix.specs.Rows.{row}
 use Rattle.matrix.proofs.Rows.{order-lt}
 
 -- Word j of row i is word R i + j.
@@ -36,11 +37,21 @@ matrix-flat f y i j inside = by (decLt i 16) (decLt i 24)
         (same-pair 185 y (omega arith) (omega arith))
     by (no past) (yes mid) =
         let from = split (rows f) i j inside 16 (omega arith) in
-        rw (le-ltb i 16 (omega arith), lt-ltb i 24 mid, le-ltb (rows f * i + j) (2 * (8 * rows f)) (omega arith), lt-ltb (rows f * i + j) (3 * (8 * rows f)) (omega (arith, before (rows f) i j inside 24 mid)))
+        rw (
+          le-ltb i 16 (omega arith),
+          lt-ltb i 24 mid,
+          le-ltb (rows f * i + j) (2 * (8 * rows f)) (omega arith),
+          lt-ltb (rows f * i + j) (3 * (8 * rows f)) (omega (arith, before (rows f) i j inside 24 mid)),
+        )
         (same-pair 233 y (omega arith) (omega arith))
     by (no past) (no high) =
         let from = split (rows f) i j inside 24 (omega arith) in
-        rw (le-ltb i 16 (omega arith), le-ltb i 24 (omega arith), le-ltb (rows f * i + j) (2 * (8 * rows f)) (omega arith), le-ltb (rows f * i + j) (3 * (8 * rows f)) (omega arith))
+        rw (
+          le-ltb i 16 (omega arith),
+          le-ltb i 24 (omega arith),
+          le-ltb (rows f * i + j) (2 * (8 * rows f)) (omega arith),
+          le-ltb (rows f * i + j) (3 * (8 * rows f)) (omega arith),
+        )
         (same-pair 233 y (omega arith) (omega arith))
 
 -- Z reads the values at 32 R places only.

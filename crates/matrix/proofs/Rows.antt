@@ -8,7 +8,7 @@ use lib.ListN.{getD}
 use Rattle.simd.specs.Basic.{table}
 use Rattle.simd.specs.Constants.{order}
 use Rattle.laws.proofs.Table.{every-at}
-use Rattle.matrix.specs.Layers.{row}
+use Rattle.matrix.specs.Rows.{row}
 
 pub row-four : (w : List ℕ) (i : ℕ) {r : List ℕ} →
     r ≡ getD w (4 * i) 0 ∷ getD w (4 * i + 1) 0 ∷ getD w (4 * i + 2) 0 ∷ getD w (4 * i + 3) 0 ∷ [] → r ≡ row 4 w i

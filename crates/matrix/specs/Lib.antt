@@ -1,2 +1,2 @@
 -- What the contracts of this crate cite beside the definitions of SIMD.
-pub mod Layers
+pub mod Rows

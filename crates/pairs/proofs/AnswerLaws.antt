@@ -1,32 +1,33 @@
--- Laws of the answer: its exits, and the four widths.
+-- Laws of the answer: its refusals, and its cases where nothing is refused.
 use mathlib.Core.Bool.{true, false}
 use mathlib.Core.List.{List}
 use mathlib.Core.Path.{_≡_, refl, _∙_}
 use Prim.Native.Nat.{ℕ, zero, suc}
-use borrow.Author.Tests.{eqb-true, ne-eqb}
-use lib.Dec.{eqb}
-use Rattle.simd.specs.Basic.{Family, familyOf, isWidth}
+use Rattle.simd.specs.Basic.{familyOf, isWidth}
 use Rattle.simd.specs.Constants.{start}
 use Rattle.simd.specs.Message.{message}
+use Rattle.simd.specs.Hash.{finalState}
 use Rattle.hash.specs.Open.{first, pieceRefusal}
-use Rattle.pairs.specs.Compared.{Found, found, compared}
+use Rattle.pairs.specs.Lists.{equal, least}
+use Rattle.pairs.specs.Pairs.{differAt}
+use Rattle.pairs.specs.Compared.{Found, common, found, compared}
 use Rattle.pairs.specs.Answer.{refusal, verdict, answer}
-use Rattle.pairs.specs.declared.Verdict.{Verdict}
-use Rattle.pairs.specs.declared.Verdict.the-variants.{Refused}
+use Rattle.pairs.specs.declared.Verdict.the-variants.{Same, Apart, Meet, Refused}
 
--- A width that is none of the first three.
-module _ (width : ℕ) (no224 : width ≡ 224 → ⊥) (no256 : width ≡ 256 → ⊥) (no384 : width ≡ 384 → ⊥) where
-  pub last-test : eqb width 512 ≡ isWidth width
-  last-test = rw (ne-eqb width 224 no224, ne-eqb width 256 no256, ne-eqb width 384 no384)
+module _ (width : ℕ) (x y : List ℕ) where
+  pub compared-same : equal x y ≡ true → Same ≡ verdict 0 (compared width x y)
+  unfolding verdict compared found
+  compared-same e = rw e
 
-  pub last-width : isWidth width ≡ true → width ≡ 512
-  last-width e = eqb-true width 512 (last-test ∙ e)
+  module _ (differ : equal x y ≡ false) where
+    pub compared-apart : equal (finalState width x) (finalState width y) ≡ false → Apart ≡ verdict 0 (compared width x y)
+    unfolding verdict compared found finalState
+    compared-apart e = rw (differ, e)
 
--- The comparison at the width w.
-pub at-width : (w : ℕ) {width : ℕ} (f : Family) {s : List ℕ} (x y : List ℕ) {r : Verdict} → width ≡ w → familyOf w ≡ f → s ≡ start w
-    → r ≡ verdict 0 (found f s x y) → r ≡ verdict 0 (compared width x y)
-unfolding compared
-at-width w f x y e family state h = h ∙ rw (e, family, state)
+    pub compared-meet : {k : ℕ} → equal (finalState width x) (finalState width y) ≡ true
+        → k ≡ least (differAt (familyOf width) (start width) x y) (common (familyOf width) x y) 0 → Meet k ≡ verdict 0 (compared width x y)
+    unfolding verdict compared found finalState
+    compared-meet e number = rw (differ, e, number)
 
 refused : (r : ℕ) (x : Found) → (r ≡ 0 → ⊥) → Refused r ≡ verdict r x
 unfolding verdict

@@ -3,6 +3,6 @@ pub mod MessageLaws
 pub mod RefusalLaws
 pub mod ByteLaws
 pub mod PairLaws
+pub mod PaddedLaws
 pub mod FoundLaws
-pub mod LockstepLaws
 pub mod AnswerLaws

@@ -9,6 +9,7 @@ use Rattle.simd.specs.Hash.{final, compressions}
 use Rattle.pairs.specs.Lists.{equal, least}
 use Rattle.pairs.specs.Pairs.{differAt}
 
+-- Messages that differ and meet are elsewhere a collision, here of the whole final state; the number tells where it comes about.
 pub data Found : Type 0 where
   same : Found
   apart : Found

@@ -39,22 +39,30 @@ module _ (tape : List ℕ) (at : ℕ) where
   unfolding readAt
   read-byte byte here e = simp (lt-leb (length tape) at here) (ap (readBy tape at) e)
 
-  pub read-other : at < length tape → (getD tape at 0 ≡ 1 → ⊥) → (getD tape at 0 ≡ 2 → ⊥) → (getD tape at 0 ≡ 3 → ⊥) → (getD tape at 0 ≡ 4 → ⊥) → (getD tape at 0 ≡ 5 → ⊥) → readAt tape at ≡ Refused 10 at
+  pub read-other :
+      at < length tape → (getD tape at 0 ≡ 1 → ⊥) → (getD tape at 0 ≡ 2 → ⊥) → (getD tape at 0 ≡ 3 → ⊥) → (getD tape at 0 ≡ 4 → ⊥)
+      → (getD tape at 0 ≡ 5 → ⊥) → readAt tape at ≡ Refused 10 at
   unfolding readAt
   read-other here n1 n2 n3 n4 n5 =
-      simp
-      (lt-leb (length tape) at here, ne-eqb (getD tape at 0) 1 n1, ne-eqb (getD tape at 0) 2 n2, ne-eqb (getD tape at 0) 3 n3, ne-eqb (getD tape at 0) 4 n4, ne-eqb (getD tape at 0) 5 n5)
+      let byte = getD tape at 0 in
+      simp (lt-leb (length tape) at here, ne-eqb byte 1 n1, ne-eqb byte 2 n2, ne-eqb byte 3 n3, ne-eqb byte 4 n4, ne-eqb byte 5 n5)
 
   -- A command by its byte, whole or cut off.
-  pub read-found : (byte size : ℕ) (command : Command) → at < length tape → getD tape at 0 ≡ byte → readBy tape at byte ≡ whole tape at size command → at + size ≤ length tape → Found command (at + size) ≡ readAt tape at
+  pub read-found :
+      (byte size : ℕ) (command : Command) → at < length tape → getD tape at 0 ≡ byte → readBy tape at byte ≡ whole tape at size command
+      → at + size ≤ length tape → Found command (at + size) ≡ readAt tape at
   read-found byte size command here e by fits = sym (read-byte byte here e ∙ by ∙ simp (le-leb (at + size) (length tape) fits))
 
-  pub read-short : (byte size : ℕ) (command : Command) → at < length tape → getD tape at 0 ≡ byte → readBy tape at byte ≡ whole tape at size command → length tape < at + size → Refused 11 at ≡ readAt tape at
+  pub read-short :
+      (byte size : ℕ) (command : Command) → at < length tape → getD tape at 0 ≡ byte → readBy tape at byte ≡ whole tape at size command
+      → length tape < at + size → Refused 11 at ≡ readAt tape at
   read-short byte size command here e by short = sym (read-byte byte here e ∙ by ∙ simp (lt-leb (at + size) (length tape) short))
 
   -- A command found lies within the tape, with its 32 bytes, and the next place is after its own bytes.
   Within : Reading → Type 0
-  Within reading = (command : Command) (next : ℕ) → reading ≡ Found command next → (next ≡ at + sizeOf command) × (next ≤ length tape) × Inside tape command
+  Within reading =
+      (command : Command) (next : ℕ) → reading ≡ Found command next
+      → (next ≡ at + sizeOf command) × (next ≤ length tape) × Inside tape command
 
   refused-within : (number place : ℕ) → Within (Refused number place)
   unfolding Within
@@ -66,7 +74,9 @@ module _ (tape : List ℕ) (at : ℕ) where
   cond-within true x y p q = p
   cond-within false x y p q = q
 
-  whole-by : (b : Bool) (found : Command) → leb (at + sizeOf found) (length tape) ≡ b → (at + sizeOf found ≤ length tape → Inside tape found) → Within (cond b (Found found (at + sizeOf found)) (Refused 11 at))
+  whole-by :
+      (b : Bool) (found : Command) → leb (at + sizeOf found) (length tape) ≡ b → (at + sizeOf found ≤ length tape → Inside tape found)
+      → Within (cond b (Found found (at + sizeOf found)) (Refused 11 at))
   unfolding Within
   whole-by true found t inside command next e =
       let fits : at + sizeOf found ≤ length tape = leb-true _ _ t in

@@ -29,12 +29,16 @@ stateWords f = 4 * rows f
 abbrev pub points : Family → ℕ
 points f = 32 * rows f
 
--- The widths of a digest, in bits, and the family of each.
+-- The widths of a digest, in bits (elsewhere: digest sizes), and the family of each.
 abbrev pub isWidth : ℕ → Bool
 isWidth width = eqb width 224 || eqb width 256 || eqb width 384 || eqb width 512
 
 abbrev pub familyOf : ℕ → Family
 familyOf width = cond (leb width 256) small large
+
+-- The bytes of a digest.
+abbrev pub digestBytes : ℕ → ℕ
+digestBytes width = width / 8
 
 -- The list g 0, g 1, .., g (n - 1).
 unfoldable pub table {ℓ} : {A : Type ℓ} → ℕ → (ℕ → A) → List A

@@ -32,7 +32,7 @@ unfoldable pub exchange : Family → ℕ → ℕ
 exchange small i = getD smallExchanges (i % 3) 0
 exchange large i = getD largeExchanges (i % 7) 0
 
--- The starting state of each width (table 1.2), in the published order of its words.
+-- The starting state of each width (the initial value or IV of table 1.2), in the published order of its words.
 unfoldable pub start224 : List ℕ
 start224 =
     0x33586e9f ∷ 0x12fff033 ∷ 0xb2d9f64d ∷ 0x6f8fea53 ∷

@@ -13,22 +13,15 @@ ghost use Rattle.expansion.specs.Call.{expandRefusal, expandOutput};
 ghost use Rattle.stepping.specs.Call.{stepsRefusal, stepsOutput, forward, backward};
 ghost use Rattle.tape.specs.Run.{ranOf, output};
 ghost use Rattle.text.specs.Text.{over};
-ghost use Rattle.simd_c.specs.Calls.{stored, openedHash, openCall, fedFrom, feedCall, takeCall, refusalOf, verdictAfter, blockAfter, runWithin, placed};
-use hash::Hash;
-use pairs::Verdict;
+ghost use Rattle.simd_c_forms.specs.Calls.{stored, openedHash, openCall, fedFrom, feedCall, takeCall};
+ghost use Rattle.simd_c_answers.specs.Calls.{refusalOf, verdictAfter, blockAfter, runWithin, placed};
 
 #[no_mangle]
 pub extern "C" fn simd_open(width: u16, form: &mut [u8]) -> u8
     ensures { λ r. ⌜ r ≡ openCall width (now (form .entry)) ⌝ }
     ensures { λ r. ⌜ now (form .exit) ≡ written (openCall width (now (form .entry))) (formOf (openedHash width)) (now (form .entry)) ⌝ }
 {
-    let opened = Hash::open(width);
-    let refusal = opened.refusal;
-    if refusal != 0 {
-        return refusal;
-    }
-    let hash = opened.hash;
-    hash.store(form).refusal
+    simd_c_forms::open_form(width, form)
 }
 
 #[no_mangle]
@@ -39,24 +32,7 @@ pub extern "C" fn simd_feed(form: &mut [u8], piece: &[u8], bits: u64, blocks: &m
     ensures { λ r. ⌜ now (blocks .exit) ≡ stored (feedCall (now (form .entry)) (now (piece .entry)) bits)
         (fedFrom (now (form .entry)) (now (piece .entry)) bits .blocks) (now (blocks .entry)) ⌝ }
 {
-    let opened = Hash::restore(form);
-    let refusal = opened.refusal;
-    if refusal != 0 {
-        return refusal;
-    }
-    let hash = opened.hash;
-    let fed = hash.feed(piece, bits as usize);
-    let refused = fed.refusal;
-    if refused != 0 {
-        return refused;
-    }
-    let next = fed.hash;
-    let full = next.store(form).refusal;
-    if full != 0 {
-        return full;
-    }
-    *blocks = fed.blocks as u64;
-    0
+    simd_c_forms::feed_form(form, piece, bits, blocks)
 }
 
 #[no_mangle]
@@ -67,19 +43,7 @@ pub extern "C" fn simd_take(form: &[u8], out: &mut [u8], blocks: &mut u64) -> u8
     ensures { λ r. ⌜ now (blocks .exit) ≡ stored (takeCall (now (form .entry)) (now (out .entry)))
         (takeAnswer (restoreAnswer (now (form .entry)) .hash) (now (out .entry)) .blocks) (now (blocks .entry)) ⌝ }
 {
-    let opened = Hash::restore(form);
-    let refusal = opened.refusal;
-    if refusal != 0 {
-        return refusal;
-    }
-    let hash = opened.hash;
-    let taken = hash.take(out);
-    let refused = taken.refusal;
-    if refused != 0 {
-        return refused;
-    }
-    *blocks = taken.blocks as u64;
-    0
+    simd_c_forms::take_form(form, out, blocks)
 }
 
 #[no_mangle]
@@ -141,25 +105,7 @@ pub extern "C" fn simd_compare(
     ensures { λ r. ⌜ now (verdict .exit) ≡ verdictAfter (answer width (now (a .entry)) «a_bits» (now (b .entry)) «b_bits») (now (verdict .entry)) ⌝ }
     ensures { λ r. ⌜ now (block .exit) ≡ blockAfter (answer width (now (a .entry)) «a_bits» (now (b .entry)) «b_bits») (now (block .entry)) ⌝ }
 {
-    let found = comparison::compare(width, a, a_bits, b, b_bits);
-    match found {
-        Verdict::Same => {
-            *verdict = 0;
-            *block = 0;
-            0
-        }
-        Verdict::Apart => {
-            *verdict = 1;
-            *block = 0;
-            0
-        }
-        Verdict::Meet(k) => {
-            *verdict = 2;
-            *block = k;
-            0
-        }
-        Verdict::Refused(n) => n,
-    }
+    simd_c_answers::compare_messages(width, a, a_bits, b, b_bits, verdict, block)
 }
 
 #[no_mangle]
@@ -170,11 +116,5 @@ pub extern "C" fn simd_tape(tape: &[u8], out: &mut [u8], count: &mut u64, place:
     ensures { λ r. ⌜ now (place .exit) ≡ placed (ranOf (runWithin (now (tape .entry)) (now (out .entry))) .refusal)
         (ranOf (runWithin (now (tape .entry)) (now (out .entry))) .place) (now (place .entry)) ⌝ }
 {
-    let ran = tape::run(tape, out);
-    let refusal = ran.refusal;
-    *count = ran.digests as u64;
-    if refusal != 0 {
-        *place = ran.place as u64;
-    }
-    refusal
+    simd_c_answers::run_tape(tape, out, count, place)
 }

@@ -15,7 +15,7 @@ use Rattle.simd.specs.Hash.{chain}
 use Rattle.laws.proofs.Table.{length-table, getD-table, every, every-at}
 use Rattle.laws.proofs.Words.{add-lt, rotl-lt}
 use Rattle.words.proofs.Rotations.{rotation-above, rotation-below}
-use Rattle.stepping.proofs.Theorems.{below-append}
+use Rattle.stepping_theorems.proofs.Theorems.{below-append}
 use Rattle.hash.proofs.Feeding.{at-widths}
 
 -- Every word of a list fits; past its end stands 0.

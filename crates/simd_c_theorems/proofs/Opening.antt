@@ -10,11 +10,13 @@ use Rattle.simd.specs.Basic.{Family, small, large, familyOf, isWidth, blockBits
 use Rattle.simd.specs.Constants.{start}
 use Rattle.laws.proofs.Bits.{Bits}
 use Rattle.tail.proofs.Sizes.{words-within}
-use Rattle.tail.proofs.Zeros.{getD-padded}
+use Rattle.bits.proofs.Zeros.{getD-padded}
 use Rattle.hash.specs.Open.{holding, legal, openAnswer}
 use Rattle.hash.specs.declared.Opened.{Opened}
-use Rattle.hash.proofs.Holding.{Value, held-legal}
-use Rattle.hash.proofs.Feeding.{held-sized, at-widths, start-length}
+use Rattle.hash.proofs.Holding.{Value}
+use Rattle.hash_theorems.proofs.Held.{held-legal}
+use Rattle.hash.proofs.Feeding.{at-widths, start-length}
+use Rattle.hash_theorems.proofs.Advanced.{held-sized}
 use Rattle.hash_theorems.proofs.Theorems.{open-known}
 use Rattle.simd_c_theorems.proofs.Fitting.{start-fits}
 

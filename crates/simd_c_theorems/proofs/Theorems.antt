@@ -13,22 +13,24 @@ use Rattle.simd.specs.Message.{message}
 use Rattle.simd.specs.Hash.{chain, digest, compressions}
 use Rattle.laws.proofs.Bits.{Bits}
 use Rattle.tail.proofs.Sizes.{words-within, chain-length}
-use Rattle.tail.proofs.Zeros.{getD-padded}
-use Rattle.hash.specs.Open.{limit, family, legal, reached, pending, holding, openAnswer, fullBlocks, advanced, feedAnswer, takeAnswer, takeRefusal, digestOf, written, first}
+use Rattle.bits.proofs.Zeros.{getD-padded}
+use Rattle.hash.specs.Open.{limit, family, legal, reached, pending, holding, fullBlocks, advanced, digestOf, written, first}
+use Rattle.hash.specs.Open.{openAnswer, feedAnswer, takeAnswer, takeRefusal}
 use Rattle.hash.specs.Form.{formBytes, formOf, storeRefusal, storeAnswer, restoreAnswer}
 use Rattle.hash.specs.declared.Hash.{Hash}
 use Rattle.hash.specs.declared.Opened.{Opened}
 use Rattle.hash.specs.declared.Fed.{Fed}
 use Rattle.hash.proofs.Holding.{Value, length-reached}
-use Rattle.hash.proofs.Feeding.{Whole, advanced-sized, advanced-bits, advanced-legal, fed-whole, length-message, bits-message}
-use Rattle.hash.proofs.Storing.{reached-fits, form-length}
+use Rattle.hash.proofs.Feeding.{Whole, fed-whole, length-message, bits-message}
+use Rattle.hash_theorems.proofs.Advanced.{advanced-sized, advanced-bits, advanced-legal}
+use Rattle.hash_theorems.proofs.Storing.{reached-fits, form-length}
 use Rattle.hash.proofs.Refusing.{written-accepted}
 use Rattle.hash_theorems.proofs.Theorems.{Piece, joined, feedAll, Wholes, open-known, feed-all, bits-joined, cutting, stored-restored}
-use Rattle.simd_c.specs.Calls.{stored, openedHash, openCall, fedFrom, feedCall, takeCall}
-use Rattle.simd_c.proofs.Laws.{stored-accepted}
+use Rattle.simd_c_forms.specs.Calls.{stored, openedHash, openCall, fedFrom, feedCall, takeCall}
+use Rattle.simd_c_forms.proofs.Laws.{stored-accepted}
+use Rattle.simd_c_forms.proofs.Answers.{answered-refusal}
 use Rattle.simd_c_theorems.proofs.Fitting.{chain-fits}
 use Rattle.simd_c_theorems.proofs.Opening.{opened-legal, opened-value, opened-bits}
-use Rattle.simd_c.proofs.Answers.{take-refused}
 
 -- The form that simd_open leaves, and the form and the sum of the blocks that simd_feed leaves, called for one piece after the other. The
 -- refusals are summed too, so that 0 says that no call was refused.
@@ -150,7 +152,7 @@ module _ (h : Hash) (v : Value h) (good : legal h ≡ true) (out : List ℕ) (an
   take-bytes : takenBytes (formOf h) out ≡ written (takeRefusal h out) (digestOf h) out
   unfolding takenBytes
   take-bytes =
-      let call = take-accepted ∙ sym answered ∙ take-refused h out in
+      let call = take-accepted ∙ sym answered ∙ answered-refusal h out in
       let read = stored-restored h v good in
       λ i. written (call i) (digestOf (read i .hash)) out
 

@@ -6,7 +6,7 @@ use Prim.Native.Nat.{ℕ, _+_, _*_, _<_}
 use native.Mathlib.Omega.{arith}
 use lib.ListN.{length, getD, take, drop, length-take}
 use lib.Seq.{take-all}
-use Rattle.simd.specs.Basic.{Family, large, familyOf, blockBytes, blockBits, stateWords}
+use Rattle.simd.specs.Basic.{Family, large, blockBytes, blockBits, stateWords}
 use Rattle.simd.specs.Message.{bitsOf, byteOf}
 use Rattle.simd.specs.Steps.{compression}
 use Rattle.simd.specs.Hash.{chain}
@@ -14,8 +14,8 @@ use Rattle.iteration.specs.Blocks.{absorbed}
 use Rattle.laws.proofs.Table.{table-of}
 use Rattle.laws.proofs.Bits.{byte-bitsOf}
 use Rattle.laws.proofs.Chain.{length-compression, byte-drop, chain-ext, chain-add}
-use Rattle.tail.specs.Zero.{padded}
-use Rattle.tail.proofs.Zeros.{length-padded, take-padded}
+use Rattle.bits.specs.Zero.{padded}
+use Rattle.bits.proofs.Zeros.{length-padded, take-padded}
 use Rattle.tail.proofs.Sizes.{words-within, chain-length}
 
 pub padded-whole : (n : ℕ) (xs : List ℕ) → length xs ≡ n → padded n xs ≡ xs
@@ -30,7 +30,8 @@ whole-absorbed s bytes k long =
 pub whole-concluded : (s bytes : List ℕ) (k : ℕ) (last : List ℕ) → length s ≡ 32
     → padded 32 (compression large true (absorbed large (take 32 s) bytes k) last) ≡ compression large true (absorbed large s bytes k) last
 whole-concluded s bytes k last long =
-    rw (take-all 32 s (omega arith)) (padded-whole 32 (compression large true (absorbed large s bytes k) last) (length-compression large true (absorbed large s bytes k) last))
+    let s′ = compression large true (absorbed large s bytes k) last in
+    rw (take-all 32 s (omega arith)) (padded-whole 32 s′ (length-compression large true (absorbed large s bytes k) last))
 
 -- Blocks of a message, from its block c on.
 pub absorbed-chain : (f : Family) (s m x : List ℕ) (c k : ℕ) → ((i : ℕ) → getD x i 0 < 256)
@@ -49,11 +50,12 @@ absorbed-on f s t x j k fits-t fits same =
     absorbed-chain f s (bitsOf t) x j k fits (λ i below. same i below ∙ sym (byte-bitsOf t (blockBytes f * j + i) (fits-t (blockBytes f * j + i))))
 
 -- The family's words of a state that is 0 past them.
-pub length-prefix : (width : ℕ) (state : List ℕ) → state ≡ padded 32 (take (stateWords (familyOf width)) state) → length (take (stateWords (familyOf width)) state) ≡ stateWords (familyOf width)
-length-prefix width state fits =
-    omega (arith, length-take (stateWords (familyOf width)) state, ap length fits, length-padded 32 (take (stateWords (familyOf width)) state), words-within (familyOf width))
+pub length-prefix : (f : Family) (state : List ℕ) → state ≡ padded 32 (take (stateWords f) state) → length (take (stateWords f) state) ≡ stateWords f
+length-prefix f state fits =
+    omega (arith, length-take (stateWords f) state, ap length fits, length-padded 32 (take (stateWords f) state), words-within f)
 
 -- A state made of the family's words is 0 past them.
-pub refit : (f : Family) (state words : List ℕ) → length words ≡ stateWords f → state ≡ padded 32 words → state ≡ padded 32 (take (stateWords f) state)
+pub refit : (f : Family) (state words : List ℕ) → length words ≡ stateWords f → state ≡ padded 32 words
+    → state ≡ padded 32 (take (stateWords f) state)
 refit f state words long same =
     same ∙ ap (padded 32) (sym (ap (take (stateWords f)) same ∙ take-padded 32 (stateWords f) words long (words-within f)))

@@ -15,8 +15,8 @@ use Rattle.simd.specs.Hash.{chain, compressions}
 use Rattle.iteration.specs.Blocks.{absorbed}
 use Rattle.laws.proofs.Bits.{length-bitsOf, bit-at, byte-bitsOf}
 use Rattle.laws.proofs.Chain.{chain-ext}
-use Rattle.tail.specs.Zero.{clear, padded}
-use Rattle.tail.proofs.Sizes.{byte-clear}
+use Rattle.bits.specs.Zero.{clear, padded}
+use Rattle.bits.proofs.Zeros.{byte-clear}
 
 -- The blocks of n bits are those of the bytes that hold them.
 pub byte-blocks : (f : Family) (n l : ℕ) → l ≡ (n + 7) / 8 → (l + (blockBytes f - 1)) / blockBytes f ≡ messageBlocks f n
@@ -62,13 +62,13 @@ module _ (bytes : List ℕ) (n : ℕ) (within : n ≤ 8 * length bytes) (zeros :
       chain-ext f w (bitsOf held) (take n (bitsOf bytes)) _ (λ j _. held-byte j)
       ∙ ap (chain f w (take n (bitsOf bytes))) (byte-blocks f n (length held) (omega (arith, length-take ((n + 7) / 8) bytes)))
 
-  -- The length block after them, where the bytes were cut at u.
-  pub closed : (f : Family) (w last : List ℕ) (u : ℕ) {state : List ℕ} → u ≡ n
+  -- The length block after them, where the bytes were cut at b.
+  pub closed : (f : Family) (w last : List ℕ) (b : ℕ) {state : List ℕ} → b ≡ (n + 7) / 8
       → state ≡ padded 32 (compression f true
-      (absorbed f w (take ((u + 7) / 8 - 0) bytes) ((length (take ((u + 7) / 8 - 0) bytes) + (blockBytes f - 1)) / blockBytes f)) last)
+      (absorbed f w (take (b - 0) bytes) ((length (take (b - 0) bytes) + (blockBytes f - 1)) / blockBytes f)) last)
       → state ≡ padded 32 (compression f true (chain f w (take n (bitsOf bytes)) (messageBlocks f n)) last)
-  closed f w last u same stated =
-      let cut : take ((u + 7) / 8 - 0) bytes ≡ held = ap (λ (k : ℕ). take k bytes) (sub-zero ((u + 7) / 8) ∙ ap (λ (k : ℕ). (k + 7) / 8) same) in
+  closed f w last b same stated =
+      let cut : take (b - 0) bytes ≡ held = ap (λ (k : ℕ). take k bytes) (sub-zero b ∙ same) in
       stated
       ∙ ap (λ (l : List ℕ). padded 32 (compression f true (absorbed f w l ((length l + (blockBytes f - 1)) / blockBytes f)) last)) cut
       ∙ ap (λ (s : List ℕ). padded 32 (compression f true s last)) (concluded f w)

@@ -1,9 +1,3 @@
-pub mod Zeros
 pub mod Sizes
-pub mod Filling
-pub mod Parts
-pub mod Stream
 pub mod Absorbing
-pub mod Running
-pub mod Advancing
 pub mod Closing

@@ -2,27 +2,23 @@
 use mathlib.Core.Bool.{Bool, true, false, cond}
 use mathlib.Core.List.{List}
 use mathlib.Core.Path.{_≡_, refl, ap, _∙_}
-use Prim.Native.Nat.{ℕ, zero, suc, _+_, _/_, _≤_, _<_}
+use Prim.Native.Nat.{ℕ, zero, suc, _+_, _≤_, _<_}
 use native.Mathlib.Omega.{arith}
-use lib.Dec.{leb, lit≤}
+use lib.Dec.{leb}
 use lib.ListN.{length}
 use Rattle.simd.specs.Basic.{isWidth}
 use Rattle.simd.specs.Message.{bitsOf, message}
-use Rattle.tail.specs.Zero.{clear}
+use Rattle.bits.specs.Zero.{clear}
 use Rattle.hash.specs.Open.{limit}
-use Rattle.hash.proofs.Feeding.{at-widths}
 use Rattle.reader.specs.declared.Command.{Command}
 use Rattle.reader.specs.declared.Command.the-variants.{Open, Full, Part, Take, Stop}
 use Rattle.reader.specs.declared.Reading.{Reading}
 use Rattle.reader.specs.declared.Reading.the-variants.{Found, Refused}
 use Rattle.reader.specs.Reading.{readAt}
 use Rattle.reader.proofs.Laws.{sizeOf, read-next, read-size}
-use Rattle.tape.specs.Run.{Hashing, closed, opened, Effect, goes, takes, stops, refuses, effect, feeding, piece, Entry, Run, ended, first, follow, after, runFor, runFrom}
+use Rattle.commands.specs.Effect.{Hashing, closed, opened, Effect, goes, takes, stops, refuses, effect, feeding, piece}
+use Rattle.tape.specs.Run.{Entry, Run, ended, first, follow, after, runFor, runFrom}
 use Rattle.tape.proofs.Runs.{enough}
-
--- Any digest fits 64 bytes.
-pub fits-64 : (width : ℕ) → isWidth width ≡ true → (width / 8 ≤ 64) × (4 ≤ width / 8)
-fits-64 = at-widths (λ (w : ℕ). (w / 8 ≤ 64) × (4 ≤ w / 8)) (lit≤ tt, lit≤ tt) (lit≤ tt, lit≤ tt) (lit≤ tt, lit≤ tt) (lit≤ tt, lit≤ tt)
 
 -- An open hash has one of the four widths.
 abbrev Known : Hashing → Type 0
@@ -109,7 +105,9 @@ first-follow n tape at next command found left rest (takes w m) known single =
     let size = read-size tape at command next found ∙ ap (λ (c : Command). at + sizeOf c) single in
     let entry : Entry = record { width = w; fed = m; place = at } in
     some entry known (omega arith) (omega (arith, there .0, there .1))
-    (ap (first entry) (enough n (suc (length tape)) tape next closed (omega (arith, there .0)) (omega (arith, there .0)) ∙ ap (λ (k : ℕ). runFor (suc (length tape)) tape k closed) size))
+    (ap (first entry)
+    (enough n (suc (length tape)) tape next closed (omega (arith, there .0)) (omega (arith, there .0))
+    ∙ ap (λ (k : ℕ). runFor (suc (length tape)) tape k closed) size))
 first-follow n tape at next command found left rest stops known single = none 0 0 refl
 first-follow n tape at next command found left rest (refuses k) known single = none k at refl
 

@@ -1,7 +1,5 @@
-pub mod Runs
-pub mod Standings
-pub mod Clear
-pub mod Steps
-pub mod Reached
+pub mod Finishing
+mod Runs
+mod Reached
 pub mod Entries
 pub mod Done

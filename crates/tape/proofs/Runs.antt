@@ -8,10 +8,13 @@ use Rattle.reader.specs.declared.Reading.{Reading}
 use Rattle.reader.specs.declared.Reading.the-variants.{Found, Refused}
 use Rattle.reader.specs.Reading.{readAt}
 use Rattle.reader.proofs.Laws.{read-none, read-next}
-use Rattle.tape.specs.Run.{Hashing, closed, Effect, goes, takes, stops, refuses, effect, Run, first, follow, after, runFor, runFrom, within}
+use Rattle.commands.specs.Effect.{Hashing, closed, Effect, goes, takes, stops, refuses, effect}
+use Rattle.tape.specs.Run.{Run, first, follow, after, runFor, runFrom}
 
 -- A run goes by what follows, and only at later places of the tape.
-follow-ext : (f g : ℕ → Hashing → Run) (at next : ℕ) (e : Effect) → ((h : Hashing) → f next h ≡ g next h) → follow f at next e ≡ follow g at next e
+follow-ext :
+    (f g : ℕ → Hashing → Run) (at next : ℕ) (e : Effect) → ((h : Hashing) → f next h ≡ g next h)
+    → follow f at next e ≡ follow g at next e
 follow-ext f g at next (goes h) same = same h
 follow-ext f g at next (takes w m) same = ap (first (record { width = w; fed = m; place = at })) (same closed)
 follow-ext f g at next stops same = refl
@@ -26,7 +29,9 @@ after-ext f g tape at h (Found command next) e same =
 after-ext f g tape at h (Refused number place) e same = refl
 
 -- More commands than the tape has bytes left change nothing.
-pub enough : (m n : ℕ) (tape : List ℕ) (at : ℕ) (h : Hashing) → length tape < m + at → length tape < n + at → runFor m tape at h ≡ runFor n tape at h
+pub enough :
+    (m n : ℕ) (tape : List ℕ) (at : ℕ) (h : Hashing) → length tape < m + at → length tape < n + at
+    → runFor m tape at h ≡ runFor n tape at h
 unfolding runFor
 enough zero zero tape at h p q = refl
 enough zero (suc n) tape at h p q = ap (after (runFor n tape) tape at h) (sym (read-none tape at (omega arith)))

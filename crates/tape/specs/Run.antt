@@ -1,56 +1,19 @@
 -- What a tape means: the digests of its TAKEs in order, and how it ends.
 use mathlib.Core.Bool.{cond}
 use mathlib.Core.List.{List, [], _∷_, _++_}
-use Prim.Native.Nat.{ℕ, zero, suc, _+_, _-_, _/_}
+use Prim.Native.Nat.{ℕ, zero, suc, _+_, _-_}
 use lib.Dec.{leb}
-use lib.ListN.{length, take, drop}
-use Rattle.simd.specs.Basic.{isWidth}
-use Rattle.simd.specs.Message.{bitsOf, message}
+use lib.ListN.{length, take}
+use Rattle.simd.specs.Basic.{digestBytes}
 use Rattle.simd.specs.Hash.{digest}
-use Rattle.tail.specs.Zero.{clear}
-use Rattle.hash.specs.Open.{limit}
-use Rattle.reader.specs.declared.Command.{Command}
-use Rattle.reader.specs.declared.Command.the-variants.{Open, Full, Part, Take, Stop}
 use Rattle.reader.specs.declared.Reading.{Reading}
 use Rattle.reader.specs.declared.Reading.the-variants.{Found, Refused}
 use Rattle.reader.specs.Reading.{readAt}
+pub use Rattle.commands.specs.Effect.{Hashing, closed, opened, Effect, goes, takes, stops, refuses}
+unfoldable pub use Rattle.commands.specs.Effect.{effect}
 use Rattle.tape.specs.declared.Next.{Next}
 use Rattle.tape.specs.declared.Next.the-variants.{Taken, Ended}
 use Rattle.tape.specs.declared.Ran.{Ran}
-
--- No hash is open, or one of a width that was fed these bits.
-pub data Hashing : Type 0 where
-  closed : Hashing
-  opened : (width : ℕ) (fed : List ℕ) → Hashing
-
--- What a command does: the tape goes on, a digest is taken, the tape stops, or the command is refused with a number.
-pub data Effect : Type 0 where
-  goes : Hashing → Effect
-  takes : (width : ℕ) (fed : List ℕ) → Effect
-  stops : Effect
-  refuses : (number : ℕ) → Effect
-
--- The 32 bytes of FULL and PART.
-abbrev pub piece : List ℕ → ℕ → List ℕ
-piece tape place = take 32 (drop place tape)
-
--- 4: the total is above the limit.
-unfoldable pub feeding : ℕ → List ℕ → List ℕ → Effect
-feeding width fed bits = cond (leb (length fed + length bits) limit) (goes (opened width (fed ++ bits))) (refuses 4)
-
--- 12: OPEN while open, or FULL, PART, TAKE while not. 1: no such width. 3: a bit set past the count of PART, in all of its 32 bytes.
-unfoldable pub effect : List ℕ → Hashing → Command → Effect
-effect tape closed (Open w) = cond (isWidth w) (goes (opened w [])) (refuses 1)
-effect tape closed (Full p) = refuses 12
-effect tape closed (Part n p) = refuses 12
-effect tape closed Take = refuses 12
-effect tape closed Stop = stops
-effect tape (opened width fed) (Open w) = refuses 12
-effect tape (opened width fed) (Full p) = feeding width fed (bitsOf (piece tape p))
-effect tape (opened width fed) (Part n p) =
-    cond (clear n (piece tape p)) (feeding width fed (message (piece tape p) n)) (refuses 3)
-effect tape (opened width fed) Take = takes width fed
-effect tape (opened width fed) Stop = stops
 
 -- A TAKE: the width and the bits that were fed since its OPEN, and its place.
 pub record Entry : Type 0 where
@@ -93,7 +56,7 @@ runFrom tape at hashing = runFor (suc (length tape)) tape at hashing
 unfoldable pub fit : ℕ → List Entry → ℕ → ℕ → Run
 fit room [] number place = ended number place
 fit room (e ∷ entries) number place =
-    cond (leb (e .width / 8) room) (first e (fit (room - e .width / 8) entries number place)) (ended 6 (e .place))
+    cond (leb (digestBytes (e .width)) room) (first e (fit (room - digestBytes (e .width)) entries number place)) (ended 6 (e .place))
 
 unfoldable pub within : ℕ → Run → Run
 within room run = fit room (run .entries) (run .number) (run .place)

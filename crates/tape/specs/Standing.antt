@@ -1,59 +1,25 @@
--- What the functions below the run promise each other: how the program's hash stands for what a tape has open, and what a step makes of it.
-use mathlib.Core.Bool.{true, cond}
-use mathlib.Core.List.{List, []}
+-- What the functions below the run promise each other.
+use mathlib.Core.Bool.{cond}
+use mathlib.Core.List.{List}
 use mathlib.Core.Path.{_≡_}
-use Prim.Native.Nat.{ℕ, _+_, _/_, _≤_, _<_}
+use Prim.Native.Nat.{ℕ, _+_}
 use lib.Dec.{leb}
-use lib.ListN.{length, getD}
-use Rattle.simd.specs.Basic.{isWidth}
-use Rattle.simd.specs.Constants.{start}
+use lib.ListN.{length}
+use Rattle.simd.specs.Basic.{digestBytes}
 use Rattle.simd.specs.Hash.{digest}
 use Rattle.hash.specs.declared.Hash.{Hash}
-use Rattle.hash.specs.Open.{limit, holding, advanced}
 use Rattle.text.specs.Text.{over}
-use Rattle.reader.specs.declared.Command.{Command}
-use Rattle.reader.specs.declared.Command.the-variants.{Open, Take}
 use Rattle.reader.specs.declared.Reading.{Reading}
 use Rattle.reader.specs.declared.Reading.the-variants.{Found, Refused}
-use Rattle.tape.specs.Run.{Hashing, closed, opened, Effect, goes, takes, stops, refuses, effect}
-use Rattle.tape.specs.declared.Step.{Step}
+use Rattle.commands.specs.Standing.{Stands}
 use Rattle.tape.specs.declared.Next.{Next}
 use Rattle.tape.specs.declared.Next.the-variants.{Taken, Ended}
 use Rattle.tape.specs.declared.Ran.{Ran}
 
--- The hash of a width that was fed these bits.
-pub record Stands (width : ℕ) (fed : List ℕ) (hash : Hash) : Type 0 where
-  pub known : isWidth width ≡ true
-  pub short : length fed ≤ limit
-  pub bits : (i : ℕ) → getD fed i 0 < 2
-  pub same : hash ≡ advanced (holding width 0 (start width) []) fed
-
--- Width 0: no hash is open.
-abbrev pub StandsFor : Hashing → Hash → Type 0
-StandsFor closed hash = hash .width ≡ 0
-StandsFor (opened width fed) hash = Stands width fed hash
-
--- A step with an effect: the hash that goes on, or the refusal's number.
-abbrev pub Steps : Effect → Step → Type 0
-Steps (goes hashing) step = (step .refusal ≡ 0) × StandsFor hashing (step .hash)
-Steps (takes width fed) step = step .refusal ≡ 0
-Steps stops step = step .refusal ≡ 0
-Steps (refuses number) step = (step .refusal ≡ number) × (0 < number)
-
--- What a step must be, whatever its hash stands for.
-abbrev pub Obeys : List ℕ → Command → Hash → Step → Type 0
-Obeys tape command hash step = (hashing : Hashing) → StandsFor hashing hash → Steps (effect tape hashing command) step
-
-abbrev pub Opens : ℕ → Hash → Step → Type 0
-Opens width hash step = (tape : List ℕ) → Obeys tape (Open width) hash step
-
-abbrev pub Takes : Hash → Step → Type 0
-Takes hash step = (tape : List ℕ) → Obeys tape Take hash step
-
 -- The digest of an open hash is written where it fits. 6: it does not.
 pub record Finished (width : ℕ) (fed : List ℕ) (at : ℕ) (out exit : List ℕ) (next : Next) : Type 0 where
-  pub answer : next ≡ cond (leb (width / 8) (length out)) (Taken width (at + 1)) (Ended 6 at)
-  pub buffer : exit ≡ cond (leb (width / 8) (length out)) (over out 0 (digest width fed)) out
+  pub answer : next ≡ cond (leb (digestBytes width) (length out)) (Taken width (at + 1)) (Ended 6 at)
+  pub buffer : exit ≡ cond (leb (digestBytes width) (length out)) (over out 0 (digest width fed)) out
 
 abbrev pub Finishes : Hash → ℕ → List ℕ → List ℕ → Next → Type 0
 Finishes hash at out exit next = (width : ℕ) (fed : List ℕ) → Stands width fed hash → Finished width fed at out exit next

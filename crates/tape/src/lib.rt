@@ -5,10 +5,8 @@ ghost use Prim.Native.Nat.{_+_, _^_, _≤_, _<_};
 ghost use lib.Dec.{leb};
 ghost use lib.ListN.{length};
 ghost use Rattle.text.specs.Text.{over};
-ghost use Rattle.reader.specs.Reading.{Inside};
-ghost use Rattle.reader.specs.declared.Command.the-variants.{Full, Part};
 ghost use Rattle.tape.specs.Run.{runInto, output, ranOf, nextOf, firstOutput};
-ghost use Rattle.tape.specs.Standing.{Obeys, Opens, Takes, Finishes, endOf, closeOf};
+ghost use Rattle.tape.specs.Standing.{Finishes, endOf, closeOf};
 use hash::Hash;
 use reader::Command;
 use reader::Reading;
@@ -24,107 +22,6 @@ pub struct Ran {
 pub enum Next {
     Taken(u16, usize),
     Ended(u8, usize),
-}
-
-// The hash after a command, and its refusal or 0.
-struct Step {
-    hash: Hash,
-    refusal: u8,
-}
-
-// OPEN.
-fn opening(hash: Hash, width: u16) -> Step
-    ensures { λ r. ⌜ Opens width hash r ⌝ }
-{
-    if hash.width != 0 {
-        return Step {
-            hash: hash,
-            refusal: 12,
-        };
-    }
-    let opened = Hash::open(width);
-    let fresh = opened.hash;
-    Step {
-        hash: fresh,
-        refusal: opened.refusal,
-    }
-}
-
-// FULL.
-fn full(hash: Hash, tape: &[u8], place: usize) -> Step
-    requires { ⌜ Inside (now tape) (Full place) ⌝ }
-    ensures { λ r. ⌜ Obeys (now (tape .entry)) (Full place) hash r ⌝ }
-{
-    if hash.width == 0 {
-        return Step {
-            hash: hash,
-            refusal: 12,
-        };
-    }
-    let fed = hash.feed(&tape[place..place + 32], 256);
-    let fresh = fed.hash;
-    Step {
-        hash: fresh,
-        refusal: fed.refusal,
-    }
-}
-
-// PART.
-fn part(hash: Hash, tape: &[u8], count: u8, place: usize) -> Step
-    requires { ⌜ Inside (now tape) (Part count place) ⌝ }
-    ensures { λ r. ⌜ Obeys (now (tape .entry)) (Part count place) hash r ⌝ }
-{
-    if hash.width == 0 {
-        return Step {
-            hash: hash,
-            refusal: 12,
-        };
-    }
-    if !tail::bits_zero(&tape[place..place + 32], count as usize) {
-        return Step {
-            hash: hash,
-            refusal: 3,
-        };
-    }
-    let fed = hash.feed(&tape[place..place + 32], count as usize);
-    let fresh = fed.hash;
-    Step {
-        hash: fresh,
-        refusal: fed.refusal,
-    }
-}
-
-// TAKE needs an open hash.
-fn taking(hash: Hash) -> Step
-    ensures { λ r. ⌜ Takes hash r ⌝ }
-{
-    if hash.width == 0 {
-        return Step {
-            hash: hash,
-            refusal: 12,
-        };
-    }
-    Step {
-        hash: hash,
-        refusal: 0,
-    }
-}
-
-// The checks of a command but for those of its digest, and what it does to the hash.
-fn obey(hash: Hash, tape: &[u8], command: Command) -> Step
-    requires { ⌜ Inside (now tape) command ⌝ }
-    ensures { λ r. ⌜ Obeys (now (tape .entry)) command hash r ⌝ }
-{
-    match command {
-        Command::Open(width) => opening(hash, width),
-        Command::Full(place) => full(hash, tape, place),
-        Command::Part(count, place) => part(hash, tape, count, place),
-        Command::Take => taking(hash),
-        Command::Stop => Step {
-            hash: hash,
-            refusal: 0,
-        },
-    }
 }
 
 // Room for a digest.
@@ -183,7 +80,8 @@ fn none() -> Hash
 
 // The run from a place at which no hash is open, as far as its first TAKE, whose digest goes to the front of the output.
 pub fn advance(tape: &[u8], from: usize, out: &mut [u8]) -> Next
-    ensures { λ r. ⌜ (r ≡ nextOf (runInto (length (now (out .entry))) (now (tape .entry)) from)) × (now (out .exit) ≡ over (now (out .entry)) 0 (firstOutput (runInto (length (now (out .entry))) (now (tape .entry)) from))) ⌝ }
+    ensures { λ r. ⌜ (r ≡ nextOf (runInto (length (now (out .entry))) (now (tape .entry)) from))
+        × (now (out .exit) ≡ over (now (out .entry)) 0 (firstOutput (runInto (length (now (out .entry))) (now (tape .entry)) from))) ⌝ }
 {
     let mut at = from;
     let mut hash = none();
@@ -192,7 +90,7 @@ pub fn advance(tape: &[u8], from: usize, out: &mut [u8]) -> Next
         let Reading::Found(command, after) = reading else {
             return refused(reading);
         };
-        let step = obey(hash, tape, command);
+        let step = commands::obey(hash, tape, command);
         let number = step.refusal;
         if number != 0 {
             return Next::Ended(number, at);
@@ -228,7 +126,8 @@ fn closing(next: Next, digests: usize) -> Ran
 // The whole run. Digests stand straight after each other at the front of the output; a refused command leaves those before it and the rest
 // of the output as they are.
 pub fn run(tape: &[u8], out: &mut [u8]) -> Ran
-    ensures { λ r. ⌜ (r ≡ ranOf (runInto (length (now (out .entry))) (now (tape .entry)) 0)) × (now (out .exit) ≡ over (now (out .entry)) 0 (output (runInto (length (now (out .entry))) (now (tape .entry)) 0 .entries))) ⌝ }
+    ensures { λ r. ⌜ (r ≡ ranOf (runInto (length (now (out .entry))) (now (tape .entry)) 0))
+        × (now (out .exit) ≡ over (now (out .entry)) 0 (output (runInto (length (now (out .entry))) (now (tape .entry)) 0 .entries))) ⌝ }
 {
     let mut at = 0;
     let mut used = 0;

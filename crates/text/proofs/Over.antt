@@ -24,7 +24,8 @@ module _ (t : List ℕ) (at : ℕ) where
       simp length-append (omega arith)
 
   -- The tail after the string is the old one.
-  drop-over : (s : List ℕ) (k : ℕ) → at + length s ≤ length t → drop (at + length s + k) (over t at s) ≡ drop (at + length s + k) t
+  drop-over :
+      (s : List ℕ) (k : ℕ) → at + length s ≤ length t → drop (at + length s + k) (over t at s) ≡ drop (at + length s + k) t
   drop-over s k fits =
       let p = take at t ++ s in
       ap (λ (n : ℕ). drop (n + k) (p ++ drop (at + length s) t)) (sym (head-length s fits))
@@ -56,7 +57,9 @@ module _ (t : List ℕ) (at : ℕ) where
       ∙ sym (append-snoc p v (drop (suc n) t))
       ∙ (λ i. joined i ++ drop (count i) t)
 
-  pub over-pair : (s : List ℕ) (v w n : ℕ) → n ≡ at + length s → n + 1 < length t → set (set (over t at s) n v) (n + 1) w ≡ over t at (s ++ (v ∷ w ∷ []))
+  pub over-pair :
+      (s : List ℕ) (v w n : ℕ) → n ≡ at + length s → n + 1 < length t
+      → set (set (over t at s) n v) (n + 1) w ≡ over t at (s ++ (v ∷ w ∷ []))
   over-pair s v w n place fits =
       let size : length (s ++ (v ∷ [])) ≡ length s + 1 = length-append s (v ∷ []) in
       ap (λ (l : List ℕ). set l (n + 1) w) (over-byte s v n place (omega arith))
@@ -64,7 +67,9 @@ module _ (t : List ℕ) (at : ℕ) where
       ∙ ap (over t at) (append-assoc s (v ∷ []) (w ∷ []))
 
   -- A string is copied byte by byte.
-  pub over-more : (s : List ℕ) (i : ℕ) → i < length s → at + length s ≤ length t → set (over t at (take i s)) (at + i) (getD s i 0) ≡ over t at (take (i + 1) s)
+  pub over-more :
+      (s : List ℕ) (i : ℕ) → i < length s → at + length s ≤ length t
+      → set (over t at (take i s)) (at + i) (getD s i 0) ≡ over t at (take (i + 1) s)
   over-more s i here fits =
       let size : length (take i s) ≡ i = length-take-le i s (omega arith) in
       over-byte (take i s) (getD s i 0) (at + i) (omega arith) (omega arith)
@@ -74,14 +79,18 @@ module _ (t : List ℕ) (at : ℕ) where
   over-all s i all = ap (over t at) (take-all i s all)
 
 -- What is written from the start of a buffer, string after string.
+pub record Wrote (t s x : List ℕ) (m : ℕ) : Type 0 where
+  pub buffer : x ≡ over t 0 s
+  pub place : m ≡ length s
+
 pub wrote-more :
-    (t x y : List ℕ) (a b : List ℕ) (m n : ℕ) → x ≡ over t 0 a → m ≡ length a → y ≡ over x m b → n ≡ m + length b → m ≤ length t
-    → (y ≡ over t 0 (a ++ b)) × (n ≡ length (a ++ b))
-wrote-more t x y a b m n first size second more fits =
-    let place : m ≡ 0 + length a = omega arith in (
-      second ∙ (λ i. over (first i) (place i) b) ∙ over-over t 0 a b (omega arith),
-      omega (arith, length-append a b),
-    )
+    {t a x y : List ℕ} {m n : ℕ} → Wrote t a x m → (b : List ℕ) → y ≡ over x m b → n ≡ m + length b → m ≤ length t → Wrote t (a ++ b) y n
+wrote-more {t} {a} {m = m} w b second more fits =
+    let place : m ≡ 0 + length a = omega (arith, w .place) in
+    record {
+      buffer = second ∙ (λ i. over (w .buffer i) (place i) b) ∙ over-over t 0 a b (omega arith);
+      place = omega (arith, length-append a b);
+    }
 
 -- A string written at the front of a part of the buffer.
 pub over-part : (t : List ℕ) (k : ℕ) (s : List ℕ) → k + length s ≤ length t → take k t ++ over (drop k t) 0 s ≡ over t k s

@@ -10,7 +10,7 @@ use borrow.Author.Tests.{lt-ltb, le-ltb}
 use lib.Dec.{ltb}
 use lib.ListN.{length, getD, take, length-append}
 use lib.Seq.{take-suc}
-use Rattle.text.specs.Text.{digits, decimal, glyph, hex, line, digestWord, doneWord, refusedWord, atWord, digestLine, doneLine, refusedLine}
+use Rattle.text.specs.Text.{digits, glyph, hex}
 
 -- The two digits of a byte.
 abbrev pub pair : ℕ → List ℕ
@@ -29,15 +29,6 @@ hex-append (x ∷ a) b = ap {B = List ℕ} (λ (l : List ℕ). glyph (x / 16) �
 pub hex-more : (l : List ℕ) (i : ℕ) → i < length l → hex (take (i + 1) l) ≡ hex (take i l) ++ pair (getD l i 0)
 unfolding hex
 hex-more l i here = ap (λ (k : ℕ). hex (take k l)) (add-one i) ∙ ap hex (take-suc l i 0 here) ∙ hex-append (take i l) (getD l i 0 ∷ [])
-
--- The quote: 8 digits are those of 4 bytes.
-pub hex-quote : (l : List ℕ) → hex (take 4 l) ≡ take 8 (hex l)
-unfolding hex
-hex-quote [] = refl
-hex-quote (a ∷ []) = refl
-hex-quote (a ∷ b ∷ []) = refl
-hex-quote (a ∷ b ∷ c ∷ []) = refl
-hex-quote (a ∷ b ∷ c ∷ d ∷ l) = refl
 
 -- A number has at most as many digits as it may have.
 cond-le : (b : Bool) (x y : List ℕ) (k : ℕ) → length x ≤ k → length y ≤ k → length (cond b x y) ≤ k
@@ -66,22 +57,3 @@ digits-more (suc k) n large some =
 pub digits-none : (k n : ℕ) → k ≡ 0 → digits k n ≡ []
 unfolding digits
 digits-none k n e = ap (λ (j : ℕ). digits j n) e
-
--- The lines, word by word with the byte after each.
-abbrev pub spaced : List ℕ → List ℕ
-spaced word = word ++ (32 ∷ [])
-
-abbrev pub ended : List ℕ → List ℕ
-ended word = word ++ (10 ∷ [])
-
-pub digest-line : (n w : ℕ) (d : List ℕ) → spaced digestWord ++ spaced (decimal n) ++ spaced (decimal w) ++ spaced (hex d) ++ ended (hex (take 4 d)) ≡ digestLine n w d
-unfolding digestLine line
-digest-line n w d = simp (hex-quote d, append-assoc)
-
-pub done-line : (n : ℕ) → spaced doneWord ++ ended (decimal n) ≡ doneLine n
-unfolding doneLine line
-done-line n = refl
-
-pub refused-line : (n p : ℕ) → spaced refusedWord ++ spaced (decimal n) ++ spaced atWord ++ ended (decimal p) ≡ refusedLine n p
-unfolding refusedLine line
-refused-line n p = simp append-assoc

@@ -1,41 +1,9 @@
-// The lines that `seal` prints, written into a lent text.
+// Numbers and bytes as text, written into a lent text. Each writes at a place and answers the place after.
 ghost use mathlib.Core.Path.{_≡_};
 ghost use mathlib.Core.List.{[], _∷_, _++_};
 ghost use Prim.Native.Nat.{_+_, _*_, _≤_, _<_};
 ghost use lib.ListN.{length};
-ghost use Rattle.text.specs.Text.{over, digits as digitsOf, decimal as decimalOf, glyph as glyphOf, hex as hexOf, digestLine, doneLine, refusedLine};
-
-// Line k of the digests: `digest`, k, the width, the digest and its quote.
-pub fn digest_line(text: &mut [u8], number: usize, width: u16, digest: &[u8]) -> usize
-    requires { ⌜ (192 ≤ length (now text)) × (4 ≤ length (now digest)) × (length (now digest) ≤ 64) ⌝ }
-    ensures { λ r. ⌜ (now (text .exit) ≡ over (now (text .entry)) 0 (digestLine number width (now (digest .entry)))) × (r ≡ length (digestLine number width (now (digest .entry)))) ⌝ }
-{
-    let a = put(text, 0, b"digest ");
-    let b = decimal(text, a, number as u64, 32);
-    let c = decimal(text, b, width as u64, 32);
-    let d = hex(text, c, digest, 32);
-    hex(text, d, &digest[..4], 10)
-}
-
-pub fn done_line(text: &mut [u8], count: usize) -> usize
-    requires { ⌜ 192 ≤ length (now text) ⌝ }
-    ensures { λ r. ⌜ (now (text .exit) ≡ over (now (text .entry)) 0 (doneLine count)) × (r ≡ length (doneLine count)) ⌝ }
-{
-    let a = put(text, 0, b"done ");
-    decimal(text, a, count as u64, 10)
-}
-
-pub fn refused_line(text: &mut [u8], number: u8, place: usize) -> usize
-    requires { ⌜ 192 ≤ length (now text) ⌝ }
-    ensures { λ r. ⌜ (now (text .exit) ≡ over (now (text .entry)) 0 (refusedLine number place)) × (r ≡ length (refusedLine number place)) ⌝ }
-{
-    let a = put(text, 0, b"refused ");
-    let b = decimal(text, a, number as u64, 32);
-    let c = put(text, b, b"at ");
-    decimal(text, c, place as u64, 10)
-}
-
-// Each of these writes at a place and answers the place after.
+ghost use Rattle.text.specs.Text.{over, digits as digitsOf, decimal as decimalOf, glyph as glyphOf, hex as hexOf};
 
 pub fn put(text: &mut [u8], at: usize, s: &[u8]) -> usize
     requires { ⌜ at + length (now s) ≤ length (now text) ⌝ }
@@ -50,9 +18,10 @@ pub fn put(text: &mut [u8], at: usize, s: &[u8]) -> usize
 }
 
 // A number and the byte after it.
-fn decimal(text: &mut [u8], at: usize, n: u64, end: u8) -> usize
+pub fn decimal(text: &mut [u8], at: usize, n: u64, end: u8) -> usize
     requires { ⌜ at + 21 ≤ length (now text) ⌝ }
-    ensures { λ r. ⌜ (now (text .exit) ≡ over (now (text .entry)) at (decimalOf n ++ (end ∷ []))) × (r ≡ at + length (decimalOf n ++ (end ∷ []))) × (r ≤ at + 21) ⌝ }
+    ensures { λ r. ⌜ (now (text .exit) ≡ over (now (text .entry)) at (decimalOf n ++ (end ∷ [])))
+        × (r ≡ at + length (decimalOf n ++ (end ∷ []))) × (r ≤ at + 21) ⌝ }
 {
     let next = digits(text, at, 20, n);
     text[next] = end;
@@ -83,9 +52,10 @@ fn digit(d: u64) -> u8
 }
 
 // Bytes in hexadecimal and the byte after them.
-fn hex(text: &mut [u8], at: usize, bytes: &[u8], end: u8) -> usize
+pub fn hex(text: &mut [u8], at: usize, bytes: &[u8], end: u8) -> usize
     requires { ⌜ at + 2 * length (now bytes) + 1 ≤ length (now text) ⌝ }
-    ensures { λ r. ⌜ (now (text .exit) ≡ over (now (text .entry)) at (hexOf (now (bytes .entry)) ++ (end ∷ []))) × (r ≡ at + length (hexOf (now (bytes .entry)) ++ (end ∷ []))) × (r ≡ at + 2 * length (now (bytes .entry)) + 1) ⌝ }
+    ensures { λ r. ⌜ (now (text .exit) ≡ over (now (text .entry)) at (hexOf (now (bytes .entry)) ++ (end ∷ [])))
+        × (r ≡ at + length (hexOf (now (bytes .entry)) ++ (end ∷ []))) × (r ≡ at + 2 * length (now (bytes .entry)) + 1) ⌝ }
 {
     let mut i = 0;
     while i < bytes.len() {

@@ -1,2 +1,1 @@
 pub mod Traced
-pub mod States

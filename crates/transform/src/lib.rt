@@ -5,19 +5,50 @@ use transform_stages::finish;
 use transform_stages::rows;
 use transform_stages::shuffle;
 ghost use mathlib.Core.Path.{_≡_};
-ghost use Prim.Native.Nat.{_%_};
-ghost use lib.ListN.{length};
+ghost use Prim.Native.Nat.{ℕ, _+_, _%_, _<_};
+ghost use lib.ListN.{length, getD};
 ghost use Rattle.simd.specs.Basic.{small as smallFamily, large as largeFamily, table};
 ghost use Rattle.simd.specs.Expansion.{added as addedTo, transform};
+ghost use Rattle.transform_stages.specs.Stage.{Bounded};
 ghost use Rattle.transform_tables.specs.Roots.{Roots};
 
-// The transform of a block of the small family, written to out. The tables are those of `transform_tables::roots` and `transform_tables::added_small`.
+// The added constants of a message or a length block of the small family. Each table is named where it is read: one that a branch hands on
+// is copied once more.
+fn finish_small(x: &[u16], out: &mut [u16], last: bool)
+    requires { ⌜ (length (now x) ≡ 128) × (length (now out) ≡ 128) ⌝ }
+    requires { ⌜ Bounded 128 60000 (now x) ⌝ }
+    ensures { λ r. ⌜ ((i : ℕ) → i < 128 → getD (now (out .exit)) i 0 ≡ (getD (now (x .entry)) i 0 + addedTo smallFamily last i) % 257) ⌝ }
+{
+    if last {
+        let added = transform_tables::small_length();
+        finish(x, &added, out, 128);
+    } else {
+        let added = transform_tables::small_message();
+        finish(x, &added, out, 128);
+    }
+}
+
+// The same for the large family.
+fn finish_large(x: &[u16], out: &mut [u16], last: bool)
+    requires { ⌜ (length (now x) ≡ 256) × (length (now out) ≡ 256) ⌝ }
+    requires { ⌜ Bounded 256 60000 (now x) ⌝ }
+    ensures { λ r. ⌜ ((i : ℕ) → i < 256 → getD (now (out .exit)) i 0 ≡ (getD (now (x .entry)) i 0 + addedTo largeFamily last i) % 257) ⌝ }
+{
+    if last {
+        let added = transform_tables::large_length();
+        finish(x, &added, out, 256);
+    } else {
+        let added = transform_tables::large_message();
+        finish(x, &added, out, 256);
+    }
+}
+
+// The transform of a block of the small family, written to out. The table is that of `transform_tables::roots`.
 // The first two stages run over neighbouring places of the block. Then the eight values of a place are brought side by side, and the other
 // stages run over these. They work on local arrays, which cannot overlap a table: so the loops become vector code with no test.
-pub fn small(block: &[u8], roots: &[u16; 512], added: &[u16; 128], out: &mut [u16], last: bool)
+pub fn small(block: &[u8], roots: &[u16; 512], out: &mut [u16], last: bool)
     requires { ⌜ (length (now block) ≡ 64) × (length (now out) ≡ 128) ⌝ }
     requires { ⌜ Roots (now roots) ⌝ }
-    requires { ⌜ now added ≡ table 128 (λ i. addedTo smallFamily last i % 257) ⌝ }
     ensures { λ r. ⌜ now (out .exit) ≡ table 128 (transform smallFamily last (now (block .entry))) ⌝ }
 {
     let mut x = [0u16; 128];
@@ -32,14 +63,13 @@ pub fn small(block: &[u8], roots: &[u16; 512], added: &[u16; 128], out: &mut [u1
     rows(&x, &mut y, roots, 16, 4, 64);
     rows(&y, &mut x, roots, 32, 2, 64);
     rows(&x, &mut y, roots, 64, 1, 64);
-    finish(&y, added, out, 128);
+    finish_small(&y, out, last);
 }
 
-// The same for a block of the large family, with `transform_tables::added_large`.
-pub fn large(block: &[u8], roots: &[u16; 512], added: &[u16; 256], out: &mut [u16], last: bool)
+// The same for a block of the large family.
+pub fn large(block: &[u8], roots: &[u16; 512], out: &mut [u16], last: bool)
     requires { ⌜ (length (now block) ≡ 128) × (length (now out) ≡ 256) ⌝ }
     requires { ⌜ Roots (now roots) ⌝ }
-    requires { ⌜ now added ≡ table 256 (λ i. addedTo largeFamily last i % 257) ⌝ }
     ensures { λ r. ⌜ now (out .exit) ≡ table 256 (transform largeFamily last (now (block .entry))) ⌝ }
 {
     let mut x = [0u16; 256];
@@ -55,5 +85,5 @@ pub fn large(block: &[u8], roots: &[u16; 512], added: &[u16; 256], out: &mut [u1
     rows(&y, &mut x, roots, 32, 4, 128);
     rows(&x, &mut y, roots, 64, 2, 128);
     rows(&y, &mut x, roots, 128, 1, 128);
-    finish(&x, added, out, 256);
+    finish_large(&x, out, last);
 }

@@ -18,7 +18,8 @@ sum-pairs zero g = refl
 sum-pairs (suc n) g =
     let double : 2 * suc n ≡ suc (suc (2 * n)) = omega arith in
     let odd : g (suc (2 * n)) ≡ g (2 * n + 1) = ap g (omega arith) in
-    omega (arith, ap (λ v. sum v g) double, sum-suc (suc (2 * n)) g, sum-suc (2 * n) g, sum-pairs n g, sum-suc n (λ s. g (2 * s)), sum-suc n (λ s. g (2 * s + 1)))
+    omega
+    (arith, ap (λ v. sum v g) double, sum-suc (suc (2 * n)) g, sum-suc (2 * n) g, sum-pairs n g, sum-suc n (λ s. g (2 * s)), sum-suc n (λ s. g (2 * s + 1)))
 
 module _ (a : ℕ → ℕ) (e m l : ℕ) where
   evens : (k q s : ℕ) → a (q + m * (2 * s)) * power 41 (e * (k * (2 * s))) ≡ a (q + 2 * m * s) * power 41 (2 * e * (k * s))
@@ -27,7 +28,8 @@ module _ (a : ℕ → ℕ) (e m l : ℕ) where
       let exponent : e * (k * (2 * s)) ≡ 2 * e * (k * s) = omega arith in
       λ i. a (place i) * power 41 (exponent i)
 
-  odds : (k q s : ℕ) → Same (a (q + m * (2 * s + 1)) * power 41 (e * (k * (2 * s + 1)))) (power 41 (e * k) * (a (q + m + 2 * m * s) * power 41 (2 * e * (k * s))))
+  odds : (k q s : ℕ)
+      → Same (a (q + m * (2 * s + 1)) * power 41 (e * (k * (2 * s + 1)))) (power 41 (e * k) * (a (q + m + 2 * m * s) * power 41 (2 * e * (k * s))))
   odds k q s =
       let place : q + m * (2 * s + 1) ≡ q + m + 2 * m * s = omega arith in
       let exponent : e * (k * (2 * s + 1)) ≡ e * k + 2 * e * (k * s) = omega arith in
@@ -85,11 +87,11 @@ halves P l low high k h = by-half (decLt k l)
 -- Butterflies lead from a level to the next, whatever the places.
 module _
     (a : ℕ → ℕ)
-    (e m l b : ℕ)
+    (e m l : ℕ)
     (order : e * l ≡ 128)
     (at at′ : ℕ → ℕ → ℕ)
     (x y : List ℕ)
-    (level : Level a (2 * e) (2 * m) l b at x)
+    (level : Level a (2 * e) (2 * m) l at x)
     (all : (k q : ℕ) → k < l → q < m
     → Butterfly (getD x (at k q) 0) (power 41 (e * k)) (getD x (at k (q + m)) 0) (getD y (at′ k q) 0) (getD y (at′ (k + l) q) 0)) where
   from : (k q : ℕ) → k < l → q < 2 * m → Same (getD x (at k q) 0) (part a (2 * e) (2 * m) l k q)
@@ -109,16 +111,10 @@ module _
       (same-mul (same-refl 256) (same-mul (same-refl (power 41 (e * k))) (from k (q + m) hk (omega arith)))))
       (same-sym (split-minus a e m l order k q)))
 
-  pub next : Level a e m (2 * l) (b + 514) at′ y
+  pub next : Level a e m (2 * l) at′ y
   next =
       record {
         value =
             λ k q hk hq.
             halves (λ k. Same (getD y (at′ k q) 0) (part a e m (2 * l) k q)) l (λ k h. value-low k q h hq) (λ k h. value-high k q h hq) k hk .same;
-        bound =
-            λ k q hk hq.
-            halves (λ k. getD y (at′ k q) 0 ≤ b + 514) l
-            (λ k h. omega (arith, all k q h hq .plus-bound, level .bound k q h (omega arith)))
-            (λ k h. omega (arith, all k q h hq .minus-bound, level .bound k q h (omega arith)))
-            k hk;
       }

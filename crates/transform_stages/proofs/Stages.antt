@@ -2,19 +2,25 @@
 use mathlib.Core.List.{List}
 use mathlib.Core.Logic.{⊎-elim}
 use mathlib.Core.Path.{_≡_, sym, ap, _∙_, subst}
-use Prim.Native.Nat.{ℕ, zero, suc, _+_, _*_, _^_, _<_, _≤_}
-use native.Mathlib.Nat.{pow-suc, mul-le-mul-right, suc-mul, eq-or-lt-of-le}
+use Prim.Native.Nat.{ℕ, zero, suc, _+_, _*_, _/_, _%_, _^_, _<_, _≤_}
+use native.Mathlib.Nat.{pow-suc, mul-le-mul-right, suc-mul, mul-zero, eq-or-lt-of-le, div-add-mod', div-lt-iff-lt-mul, mod-lt}
 use native.Mathlib.Omega.{arith}
 use lib.ListN.{getD}
 use lib.Pow.{pow-pos}
 use Rattle.simd.specs.Expansion.{power}
-use Rattle.transform_stages.specs.Stage.{Leads, Butterfly}
+use Rattle.transform_stages.specs.Stage.{Bounded, limit, Leads, Butterfly}
 use Rattle.transform_tables.specs.Roots.{Roots}
-use Rattle.transform_stages.proofs.Level.{next}
+use Rattle.transform_stages.proofs.Level.{halves, next}
 
 -- One place more is still within the whole.
 pub one-more : (q m l : ℕ) → q < m → q * l + l ≤ m * l
 one-more q m l h = omega (arith, mul-le-mul-right l h, suc-mul q l)
+
+-- What holds at each place a s + b holds at all n s places.
+everywhere : (P : ℕ → Type 0) (n s : ℕ) → ((a b : ℕ) → a < n → b < s → P (a * s + b)) → (p : ℕ) → p < n * s → P p
+everywhere P n zero all p h = absurd (omega (arith, mul-zero n))
+everywhere P n (suc s) all p h =
+    subst P (div-add-mod' p (suc s)) (all (p / suc s) (p % suc s) (div-lt-iff-lt-mul {k = suc s} (omega arith) .1 h) (mod-lt p (omega arith)))
 
 -- The row of factors of order 2 l.
 module _ (t : List ℕ) (roots : Roots t) where
@@ -24,7 +30,7 @@ module _ (t : List ℕ) (roots : Roots t) where
   fits : (j l : ℕ) → 2 ^ suc j * l ≡ 128 → 2 * l ≤ 128
   fits j l order = omega (arith, doubled j l, mul-le-mul-right (2 * l) (pow-pos j))
 
-  pub root-at : (j l k : ℕ) → 2 ^ j * l ≡ 128 → k < l → getD t (l + k) 0 ≡ power 41 (2 ^ j * k)
+  root-at : (j l k : ℕ) → 2 ^ j * l ≡ 128 → k < l → getD t (l + k) 0 ≡ power 41 (2 ^ j * k)
   root-at zero l k order h =
       let whole : l ≡ 128 = omega arith in
       ap (λ v. getD t (v + k) 0) whole ∙ roots .last-row k (omega arith) ∙ ap (power 41) (omega arith)
@@ -35,77 +41,86 @@ module _ (t : List ℕ) (roots : Roots t) where
       ∙ root-at j (2 * l) (2 * k) (sym (doubled j l) ∙ order) (omega arith)
       ∙ ap (power 41) (sym (doubled j k))
 
-module _ (x t : List ℕ) (l m half : ℕ) where
-  -- The butterflies of the first n places are done, the values of a place side by side.
-  abbrev pub Rows : List ℕ → ℕ → Type 0
-  Rows y n =
-      (q k : ℕ) → q < n → k < l
-      → Butterfly (getD x (q * l + k) 0) (getD t (l + k) 0) (getD x (half + q * l + k) 0) (getD y (2 * (q * l) + k) 0) (getD y (2 * (q * l) + l + k) 0)
+module _ (x t : List ℕ) where
+  -- The butterflies of the first n turns are done, size of them a turn.
+  abbrev pub Done : (size gap apart : ℕ) (from to : ℕ → ℕ) (factor : ℕ → ℕ → ℕ) → List ℕ → ℕ → Type 0
+  Done size gap apart from to factor y n =
+      (o i : ℕ) → o < n → i < size
+      → Butterfly (getD x (from o + i) 0) (getD t (factor o i) 0) (getD x (from o + gap + i) 0) (getD y (to o + i) 0) (getD y (to o + apart + i) 0)
 
-  -- The butterflies of the first n values are done, the places of a value side by side.
-  abbrev pub Columns : List ℕ → ℕ → Type 0
-  Columns y n =
-      (k q : ℕ) → k < n → q < m
-      → Butterfly (getD x (2 * (k * m) + q) 0) (getD t (l + k) 0) (getD x (2 * (k * m) + m + q) 0) (getD y (k * m + q) 0) (getD y (half + k * m + q) 0)
+  pub done-more : (size gap apart : ℕ) (from to : ℕ → ℕ) (factor : ℕ → ℕ → ℕ) (y y′ : List ℕ) (n : ℕ)
+      → Done size gap apart from to factor y n
+      → ((i : ℕ) → i < size
+      → Butterfly (getD x (from n + i) 0) (getD t (factor n i) 0) (getD x (from n + gap + i) 0) (getD y′ (to n + i) 0) (getD y′ (to n + apart + i) 0))
+      → ((o i : ℕ) → o < n → i < size
+      → (getD y′ (to o + i) 0 ≡ getD y (to o + i) 0) × (getD y′ (to o + apart + i) 0 ≡ getD y (to o + apart + i) 0))
+      → Done size gap apart from to factor y′ (n + 1)
+  done-more size gap apart from to factor y y′ n done here kept o i ho hi =
+      ⊎-elim
+      (λ e.
+      subst
+      (λ o. Butterfly (getD x (from o + i) 0) (getD t (factor o i) 0) (getD x (from o + gap + i) 0) (getD y′ (to o + i) 0) (getD y′ (to o + apart + i) 0))
+      (sym e) (here i hi))
+      (λ below. rw (kept o i below hi .0, kept o i below hi .1) (done o i below hi))
+      (eq-or-lt-of-le {n = o} {m = n} (omega arith))
 
-  module _ (y y′ : List ℕ) (n i : ℕ) where
-    pub rows-more : i ≡ n * l → Rows y n
-        → ((k : ℕ) → k < l
-        → Butterfly (getD x (i + k) 0) (getD t (l + k) 0) (getD x (half + i + k) 0) (getD y′ (2 * i + k) 0) (getD y′ (2 * i + l + k) 0))
-        → ((j : ℕ) → j < 2 * i → getD y′ j 0 ≡ getD y j 0)
-        → Rows y′ (n + 1)
-    rows-more at done here kept q k hq hk =
-        ⊎-elim
-        (λ e. subst (λ p. Butterfly (getD x (p + k) 0) (getD t (l + k) 0) (getD x (half + p + k) 0) (getD y′ (2 * p + k) 0) (getD y′ (2 * p + l + k) 0)) (at ∙ ap (λ v. v * l) (sym e)) (here k hk))
-        (λ below.
-        let within = one-more q n l below in
-        rw (kept (2 * (q * l) + k) (omega arith), kept (2 * (q * l) + l + k) (omega arith)) (done q k below hk))
-        (eq-or-lt-of-le {n = q} {m = n} (omega arith))
+  module _ (l m half : ℕ) (y : List ℕ) (roots : Roots t) where
+    -- All butterflies of a stage, by value k and part q.
+    module _ (at at′ : ℕ → ℕ → ℕ)
+        (all : (k q : ℕ) → k < l → q < m
+        → Butterfly (getD x (at k q) 0) (getD t (l + k) 0) (getD x (at k (q + m)) 0) (getD y (at′ k q) 0) (getD y (at′ (k + l) q) 0)) where
+      leads : Leads l m at at′ x y
+      leads =
+          record {
+            next =
+                λ a j order level.
+                next a (2 ^ j) m l order at at′ x y level
+                (λ k q hk hq.
+                subst (λ f. Butterfly (getD x (at k q) 0) f (getD x (at k (q + m)) 0) (getD y (at′ k q) 0) (getD y (at′ (k + l) q) 0))
+                (root-at t roots j l k order hk) (all k q hk hq));
+          }
 
-    pub columns-more : i ≡ n * m → Columns y n
-        → ((q : ℕ) → q < m
-        → Butterfly (getD x (2 * i + q) 0) (getD t (l + n) 0) (getD x (2 * i + m + q) 0) (getD y′ (i + q) 0) (getD y′ (half + i + q) 0))
-        → ((j : ℕ) → j < i → (getD y′ j 0 ≡ getD y j 0) × (getD y′ (half + j) 0 ≡ getD y (half + j) 0))
-        → Columns y′ (n + 1)
-    columns-more at done here kept k q hk hq =
-        ⊎-elim
-        (λ e.
-        subst (λ p. Butterfly (getD x (2 * p + q) 0) (getD t (l + k) 0) (getD x (2 * p + m + q) 0) (getD y′ (p + q) 0) (getD y′ (half + p + q) 0)) (at ∙ ap (λ v. v * m) (sym e))
-        (subst (λ p. Butterfly (getD x (2 * i + q) 0) (getD t (l + p) 0) (getD x (2 * i + m + q) 0) (getD y′ (i + q) 0) (getD y′ (half + i + q) 0)) (sym e) (here q hq)))
-        (λ below.
-        let within = one-more k n m below in
-        let low = kept (k * m + q) (omega arith) .0 in
-        let high : getD y′ (half + k * m + q) 0 ≡ getD y (half + k * m + q) 0 =
-        ap (λ p. getD y′ p 0) (omega arith) ∙ kept (k * m + q) (omega arith) .1 ∙ ap (λ p. getD y p 0) (omega arith) in
-        rw (low, high) (done k q below hq))
-        (eq-or-lt-of-le {n = k} {m = n} (omega arith))
+      bounded : m ≤ 64 → ((k q : ℕ) → k < l → q < m → getD x (at k q) 0 ≤ limit m)
+          → (k q : ℕ) → k < 2 * l → q < m → getD y (at′ k q) 0 ≤ limit (m / 2)
+      bounded few before k q hk hq =
+          halves (λ k. getD y (at′ k q) 0 ≤ limit (m / 2)) l
+          (λ k h. omega (arith, all k q h hq .plus-bound, before k q h hq))
+          (λ k h. omega (arith, all k q h hq .minus-bound, before k q h hq))
+          k hk
 
-  module _ (y : List ℕ) (roots : Roots t) where
-    leads : (at at′ : ℕ → ℕ → ℕ)
-        → ((k q : ℕ) → k < l → q < m
-        → Butterfly (getD x (at k q) 0) (getD t (l + k) 0) (getD x (at k (q + m)) 0) (getD y (at′ k q) 0) (getD y (at′ (k + l) q) 0))
-        → Leads l m at at′ x y
-    unfolding Leads
-    leads at at′ all a j b order level =
-        next a (2 ^ j) m l b order at at′ x y level
-        (λ k q hk hq.
-        subst (λ f. Butterfly (getD x (at k q) 0) f (getD x (at k (q + m)) 0) (getD y (at′ k q) 0) (getD y (at′ (k + l) q) 0))
-        (root-at t roots j l k order hk) (all k q hk hq))
+    module _ (few : m ≤ 64) (before : Bounded (2 * half) (limit m) x) where
+      -- The values of a place side by side.
+      module _ (size : half ≡ m * l) (done : Done l half l (λ q. q * l) (λ q. q * (2 * l)) (λ q k. l + 1 * k) y m) where
+        by-rows : (k q : ℕ) → k < l → q < m
+            → Butterfly (getD x (q * l + k) 0) (getD t (l + k) 0) (getD x ((q + m) * l + k) 0) (getD y (q * (2 * l) + k) 0) (getD y (q * (2 * l) + (k + l)) 0)
+        by-rows k q hk hq =
+            let factor : l + 1 * k ≡ l + k = omega arith in
+            let other : q * l + half + k ≡ (q + m) * l + k = omega arith in
+            let high : q * (2 * l) + l + k ≡ q * (2 * l) + (k + l) = omega arith in
+            rw (← factor, ← other, ← high) (done q k hq hk)
 
-    pub rows-lead : half ≡ m * l → Rows y m → Leads l m (λ k q. q * l + k) (λ k q. q * (2 * l) + k) x y
-    rows-lead size all =
-        leads (λ k q. q * l + k) (λ k q. q * (2 * l) + k)
-        (λ k q hk hq.
-        let other : half + q * l + k ≡ (q + m) * l + k = omega arith in
-        let low : 2 * (q * l) + k ≡ q * (2 * l) + k = omega arith in
-        let high : 2 * (q * l) + l + k ≡ q * (2 * l) + (k + l) = omega arith in
-        rw (← other, ← low, ← high) (all q k hq hk))
+        pub rows-lead : Leads l m (λ k q. q * l + k) (λ k q. q * (2 * l) + k) x y × Bounded (2 * half) (limit (m / 2)) y
+        rows-lead =
+            let below = bounded (λ k q. q * l + k) (λ k q. q * (2 * l) + k) by-rows few
+            (λ k q hk hq. before (q * l + k) (omega (arith, one-more q m l hq))) in (
+              leads (λ k q. q * l + k) (λ k q. q * (2 * l) + k) by-rows,
+              (λ p h. everywhere (λ p. getD y p 0 ≤ limit (m / 2)) m (2 * l) (λ q k hq hk. below k q hk hq) p (omega arith)),
+            )
 
-    pub columns-lead : half ≡ l * m → Columns y l → Leads l m (λ k q. k * (2 * m) + q) (λ k q. k * m + q) x y
-    columns-lead size all =
-        leads (λ k q. k * (2 * m) + q) (λ k q. k * m + q)
-        (λ k q hk hq.
-        let here : 2 * (k * m) + q ≡ k * (2 * m) + q = omega arith in
-        let other : 2 * (k * m) + m + q ≡ k * (2 * m) + (q + m) = omega arith in
-        let high : half + k * m + q ≡ (k + l) * m + q = omega arith in
-        rw (← here, ← other, ← high) (all k q hk hq))
+      -- The places of a value side by side.
+      module _ (size : half ≡ l * m) (done : Done m m half (λ k. k * (2 * m)) (λ k. k * m) (λ k q. l + k + 0 * q) y l) where
+        by-columns : (k q : ℕ) → k < l → q < m
+            → Butterfly (getD x (k * (2 * m) + q) 0) (getD t (l + k) 0) (getD x (k * (2 * m) + (q + m)) 0) (getD y (k * m + q) 0) (getD y ((k + l) * m + q) 0)
+        by-columns k q hk hq =
+            let factor : l + k + 0 * q ≡ l + k = omega arith in
+            let other : k * (2 * m) + m + q ≡ k * (2 * m) + (q + m) = omega arith in
+            let high : k * m + half + q ≡ (k + l) * m + q = omega arith in
+            rw (← factor, ← other, ← high) (done k q hk hq)
+
+        pub columns-lead : Leads l m (λ k q. k * (2 * m) + q) (λ k q. k * m + q) x y × Bounded (2 * half) (limit (m / 2)) y
+        columns-lead =
+            let below = bounded (λ k q. k * (2 * m) + q) (λ k q. k * m + q) by-columns few
+            (λ k q hk hq. before (k * (2 * m) + q) (omega (arith, one-more k l m hk))) in (
+              leads (λ k q. k * (2 * m) + q) (λ k q. k * m + q) by-columns,
+              (λ p h. everywhere (λ p. getD y p 0 ≤ limit (m / 2)) (2 * l) m below p (omega arith)),
+            )

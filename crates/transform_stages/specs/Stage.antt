@@ -1,7 +1,7 @@
 -- What the parts of the transform promise each other.
 use mathlib.Core.List.{List}
 use mathlib.Core.Path.{_≡_}
-use Prim.Native.Nat.{ℕ, _+_, _*_, _%_, _^_, _≤_, _<_}
+use Prim.Native.Nat.{ℕ, _+_, _*_, _-_, _%_, _^_, _≤_, _<_}
 use lib.ListN.{getD}
 use Rattle.simd.specs.Basic.{sum}
 use Rattle.simd.specs.Expansion.{power}
@@ -10,10 +10,17 @@ use Rattle.simd.specs.Expansion.{power}
 unfoldable pub part : (ℕ → ℕ) → ℕ → ℕ → ℕ → ℕ → ℕ → ℕ
 part a e m l k q = sum l (λ t. a (q + m * t) * power 41 (e * (k * t)))
 
--- The list x holds a level: at the place of (k, q) stands a number that is value k of part q modulo 257, and none is above b.
-pub record Level (a : ℕ → ℕ) (e m l b : ℕ) (at : ℕ → ℕ → ℕ) (x : List ℕ) : Type 0 where
+-- The list x holds a level: at the place of (k, q) stands a number that is value k of part q modulo 257.
+pub record Level (a : ℕ → ℕ) (e m l : ℕ) (at : ℕ → ℕ → ℕ) (x : List ℕ) : Type 0 where
   pub value : (k q : ℕ) → k < l → q < m → getD x (at k q) 0 % 257 ≡ part a e m l k q % 257
-  pub bound : (k q : ℕ) → k < l → q < m → getD x (at k q) 0 ≤ b
+
+-- None of the first n numbers is above b.
+abbrev pub Bounded : ℕ → ℕ → List ℕ → Type 0
+Bounded n b x = (i : ℕ) → i < n → getD x i 0 ≤ b
+
+-- The largest number that a level may have from which m parts are made. A level adds at most 514, and there are at most m of them to come.
+abbrev pub limit : ℕ → ℕ
+limit m = 60000 - 514 * m
 
 -- A butterfly: modulo 257 u is x + f y and v is x - f y, and neither is above x + 514.
 pub record Butterfly (x f y u v : ℕ) : Type 0 where
@@ -23,5 +30,15 @@ pub record Butterfly (x f y u v : ℕ) : Type 0 where
   pub minus-bound : v ≤ x + 514
 
 -- Butterflies have led from the level of l values in x to the level of 2 l values in y, by the root 41^(2^j) of order 2 l.
-unfoldable pub Leads : (l m : ℕ) (at at′ : ℕ → ℕ → ℕ) (x y : List ℕ) → Type 0
-Leads l m at at′ x y = (a : ℕ → ℕ) (j b : ℕ) → 2 ^ j * l ≡ 128 → Level a (2 * 2 ^ j) (2 * m) l b at x → Level a (2 ^ j) m (2 * l) (b + 514) at′ y
+pub record Leads (l m : ℕ) (at at′ : ℕ → ℕ → ℕ) (x y : List ℕ) : Type 0 where
+  pub next : (a : ℕ → ℕ) (j : ℕ) → 2 ^ j * l ≡ 128 → Level a (2 * 2 ^ j) (2 * m) l at x → Level a (2 ^ j) m (2 * l) at′ y
+
+-- Both halves of y are the block b.
+pub record Copied (half : ℕ) (b y : List ℕ) : Type 0 where
+  pub low : (i : ℕ) → i < half → getD y i 0 ≡ getD b i 0
+  pub high : (i : ℕ) → i < half → getD y (half + i) 0 ≡ getD b i 0
+
+-- y has the two halves of x, place by place in turn.
+pub record Shuffled (half : ℕ) (x y : List ℕ) : Type 0 where
+  pub even : (i : ℕ) → i < half → getD y (2 * i) 0 ≡ getD x i 0
+  pub odd : (i : ℕ) → i < half → getD y (2 * i + 1) 0 ≡ getD x (half + i) 0

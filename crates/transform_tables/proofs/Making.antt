@@ -11,7 +11,9 @@ use Rattle.laws.proofs.Stores.{Filled}
 use Rattle.laws.proofs.Table.{getD-table}
 use Rattle.transform_tables.specs.Roots.{Halved, Roots}
 
-module _ (t t′ : List ℕ) (l n : ℕ) (low : 0 < l) (short : n ≤ l) (high : l + n ≤ 128) (done : Halved t (l + n)) (row : Filled (λ j. getD t (2 * l + 2 * j) 0) (λ j. l + j) t t′ n) where
+-- One row more: the entries from l on are every second one from 2 l on.
+module _ (t t′ : List ℕ) (l n : ℕ) (sizes : (length t ≡ 512) × (0 < l) × (n ≤ l) × (l + n ≤ 128)) (done : Halved t (l + n))
+    (row : Filled (λ j. getD t (2 * l + 2 * j) 0) (λ j. l + j) t t′ n) where
   other : (j : ℕ) → l + n ≤ j → getD t′ j 0 ≡ getD t j 0
   other j past = row .others j (λ k below e. omega arith)
 
@@ -21,21 +23,20 @@ module _ (t t′ : List ℕ) (l n : ℕ) (low : 0 < l) (short : n ≤ l) (high :
       let twice : 2 * l + 2 * (j - l) ≡ 2 * j = omega arith in
       rw (place, twice) at (row .filled (j - l) (omega arith))
 
-  pub row-keeps : (k : ℕ) → k < 128 → getD t′ (128 + k) 0 ≡ getD t (128 + k) 0
-  row-keeps k h = other (128 + k) (omega arith)
-
-  pub row-halved : Halved t′ l
-  row-halved =
-      record {
-        each-row = λ j from below. elim (decLt j (l + n)) [
-          | yes less ↦ here j from less ∙ sym (other (2 * j) (omega arith))
-          | no past ↦ other j (omega arith) ∙ done .each-row j (omega arith) below ∙ sym (other (2 * j) (omega arith))
-        ];
-        below = λ j from below. elim (decLt j (l + n)) [
-          | yes less ↦ omega (arith, here j from less, done .below (2 * j) (omega arith) (omega arith))
-          | no past ↦ omega (arith, other j (omega arith), done .below j (omega arith) below)
-        ];
-      }
+  pub row-halved : ((k : ℕ) → k < 128 → getD t′ (128 + k) 0 ≡ getD t (128 + k) 0) × Halved t′ l
+  row-halved = (
+    (λ k h. other (128 + k) (omega arith)),
+    record {
+      each-row = λ j from below. elim (decLt j (l + n)) [
+        | yes less ↦ here j from less ∙ sym (other (2 * j) (omega arith))
+        | no past ↦ other j (omega arith) ∙ done .each-row j (omega arith) below ∙ sym (other (2 * j) (omega arith))
+      ];
+      below = λ j from below. elim (decLt j (l + n)) [
+        | yes less ↦ omega (arith, here j from less, done .below (2 * j) (omega arith) (omega arith))
+        | no past ↦ omega (arith, other j (omega arith), done .below j (omega arith) below)
+      ];
+    },
+  )
 
 pub halved-none : (t : List ℕ) → ((k : ℕ) → k < 128 → getD t (128 + k) 0 < 257) → Halved t 128
 halved-none t last =
@@ -47,7 +48,9 @@ halved-none t last =
           subst (λ p. getD t p 0 < 257) place (last (j - 128) (omega arith));
     }
 
-pub last-power : (p t : List ℕ) → p ≡ table 256 (power 41) → ((k : ℕ) → k < 128 → getD t (128 + k) 0 ≡ getD p k 0) → (k : ℕ) → k < 128 → getD t (128 + k) 0 ≡ power 41 k
+-- The last row holds the first powers.
+pub last-power : (p t : List ℕ) → p ≡ table 256 (power 41) → ((k : ℕ) → k < 128 → getD t (128 + k) 0 ≡ getD p k 0)
+    → (k : ℕ) → k < 128 → getD t (128 + k) 0 ≡ power 41 k
 last-power p t powers last k h = last k h ∙ ap (λ l. getD l k 0) powers ∙ getD-table 256 (power 41) k 0 (omega arith)
 
 -- The rows in t, and the products by 255 in t′.

@@ -1,5 +1,6 @@
 // The constant tables: the powers of 41 modulo 257, the added constants (section 1.2.2), and the roots that the transform reads.
-// A constant array is built anew wherever it is named: a caller takes a table once and lends it for many blocks.
+// A constant array is built anew wherever it is named: a caller takes the table of roots once and lends it for many blocks.
+ghost use mathlib.Core.Bool.{true, false};
 ghost use mathlib.Core.Path.{_≡_};
 ghost use Prim.Native.Nat.{ℕ, _+_, _*_, _%_, _≤_, _<_};
 ghost use lib.ListN.{length, getD};
@@ -1054,16 +1055,29 @@ pub fn powers() -> [u16; 256]
     POWERS
 }
 
-pub fn added_small(last: bool) -> [u16; 128]
-    ensures { λ r. ⌜ r ≡ table 128 (λ i. added smallFamily last i % 257) ⌝ }
+// The added constants of a message block and of a length block.
+pub fn small_message() -> [u16; 128]
+    ensures { λ r. ⌜ r ≡ table 128 (λ i. added smallFamily false i % 257) ⌝ }
 {
-    if last { SMALL_LENGTH } else { SMALL_MESSAGE }
+    SMALL_MESSAGE
 }
 
-pub fn added_large(last: bool) -> [u16; 256]
-    ensures { λ r. ⌜ r ≡ table 256 (λ i. added largeFamily last i % 257) ⌝ }
+pub fn small_length() -> [u16; 128]
+    ensures { λ r. ⌜ r ≡ table 128 (λ i. added smallFamily true i % 257) ⌝ }
 {
-    if last { LARGE_LENGTH } else { LARGE_MESSAGE }
+    SMALL_LENGTH
+}
+
+pub fn large_message() -> [u16; 256]
+    ensures { λ r. ⌜ r ≡ table 256 (λ i. added largeFamily false i % 257) ⌝ }
+{
+    LARGE_MESSAGE
+}
+
+pub fn large_length() -> [u16; 256]
+    ensures { λ r. ⌜ r ≡ table 256 (λ i. added largeFamily true i % 257) ⌝ }
+{
+    LARGE_LENGTH
 }
 
 // The last row of roots: the first 128 powers.

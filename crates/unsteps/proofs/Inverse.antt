@@ -13,7 +13,8 @@ use Rattle.laws.proofs.Table.{length-table, getD-table, table-of, table-ext}
 use Rattle.laws.proofs.Words.{add-lt, rotl-lt, rotl-back, rotl-forth}
 use Rattle.words.proofs.Exchanges.{partner-lt}
 use Rattle.words.proofs.Rotations.{rotation-above, rotation-below}
-use Rattle.unsteps.specs.Unstep.{sub, rotr, oldA, unstep, unsteps, Column, Valid}
+use Rattle.unstep_rows.specs.Rows.{sub, rotr}
+use Rattle.unsteps.specs.Unstep.{oldA, unstep, unsteps, Column, Valid}
 
 sub-add : (x y : ℕ) → x < 2 ^ 32 → sub (add x y) y ≡ x
 unfolding sub add
@@ -125,7 +126,9 @@ module _ (f : Family) (i : ℕ) (w : List ℕ) (s : State) (valid : Valid f s) w
   -- What step i backward writes in row j of D.
   old-d : (j : ℕ) → j < rows f →
       getD (unstep f i w s .d) j 0 ≡ sub
-      (sub (rotr (rotation i (i + 1)) (sub (getD (s .a) j 0) (getD (s .b) (partner f i j) 0))) (choose i (getD (oldA f i s) j 0) (getD (s .c) j 0) (getD (s .d) j 0)))
+      (sub
+      (rotr (rotation i (i + 1)) (sub (getD (s .a) j 0) (getD (s .b) (partner f i j) 0)))
+      (choose i (getD (oldA f i s) j 0) (getD (s .c) j 0) (getD (s .d) j 0)))
       (getD w j 0)
   unfolding unstep
   old-d j below = getD-table (rows f) _ j 0 below

@@ -1,18 +1,11 @@
 -- The steps backward: the mirror of `step` and `steps`.
 use mathlib.Core.List.{List, []}
-use Prim.Native.Nat.{ℕ, zero, suc, _+_, _-_, _%_, _^_, _<_}
 use mathlib.Core.Path.{_≡_}
-use lib.Bits.{bitXor}
+use Prim.Native.Nat.{ℕ, zero, suc, _+_, _^_, _<_}
 use lib.ListN.{length, getD}
 use Rattle.simd.specs.Basic.{Family, rows, table}
-use Rattle.simd.specs.Steps.{State, rotl, choose, rotation, partner}
-
--- Difference of words, and rotation to the right.
-unfoldable pub sub : ℕ → ℕ → ℕ
-sub x y = (x + (2 ^ 32 - y % 2 ^ 32)) % 2 ^ 32
-
-unfoldable pub rotr : ℕ → ℕ → ℕ
-rotr s x = rotl (32 - s) x
+use Rattle.simd.specs.Steps.{State, choose, rotation, partner}
+use Rattle.unstep_rows.specs.Rows.{sub, rotr}
 
 -- The state before step i, from the state after it. Its A is B rotated back; its B and C are C and D.
 unfoldable pub oldA : Family → ℕ → State → List ℕ
@@ -33,13 +26,6 @@ unstep f i w s =
           (choose i (getD (oldA f i s) j 0) (getD (s .c) j 0) (getD (s .d) j 0)))
           (getD w j 0));
     }
-
--- Word j of D before step i by its numbers: the rotation q and the row exchange x.
-abbrev pub oldD : Family → ℕ → ℕ → ℕ → List ℕ → List ℕ → State → ℕ → ℕ
-oldD f i q x a w s j =
-    sub
-    (sub (rotr q (sub (getD (s .a) j 0) (getD (s .b) (bitXor j x % rows f) 0))) (choose i (getD a j 0) (getD (s .c) j 0) (getD (s .d) j 0)))
-    (getD w j 0)
 
 -- Steps n - 1 to 0 undone, step i with row i of w.
 unfoldable pub unsteps : Family → List (List ℕ) → ℕ → State → State

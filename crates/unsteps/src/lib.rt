@@ -1,4 +1,3 @@
 // The steps backward, of both families.
 pub mod large;
-mod rows;
 pub mod small;

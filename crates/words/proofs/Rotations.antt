@@ -1,7 +1,7 @@
--- Every rotation count lies between 1 and 31.
+-- The rotations read off the table: every count lies between 1 and 31.
 use mathlib.Core.List.{List, []}
-use mathlib.Core.Path.{_≡_}
-use Prim.Native.Nat.{ℕ, _/_, _%_, _<_, min}
+use mathlib.Core.Path.{_≡_, ap}
+use Prim.Native.Nat.{ℕ, _+_, _/_, _%_, _<_, min}
 use native.Mathlib.Nat.{mod-lt}
 use native.Mathlib.Omega.{arith}
 use lib.Dec.{ltb, eqb, ltb→lt, eqb→eq, lit<}
@@ -36,3 +36,17 @@ rotation-above i k = above (min (i / 8) 3) (k % 4) (omega arith) (mod-lt k (lit<
 pub rotation-below : (i k : ℕ) → rotation i k < 32
 unfolding rotation
 rotation-below i k = below (min (i / 8) 3) (k % 4) (omega arith) (mod-lt k (lit< tt))
+
+-- Entry i + 1 of a quadruple, reduced first.
+pub next-rotation : (i : ℕ) → rotation i (i % 4 + 1) ≡ rotation i (i + 1)
+unfolding rotation
+next-rotation i =
+    let same : (i % 4 + 1) % 4 ≡ (i + 1) % 4 = omega arith in
+    ap (λ k. getD (getD rotations (min (i / 8) 3) []) k 0) same
+
+pub rotation-read : {q : List (List ℕ)} {n : ℕ} (i k : ℕ) → q ≡ rotations → n ≡ min (i / 8) 3 →
+    (getD (getD q n []) (k % 4) 0 ≡ rotation i k) × ((0 < getD (getD q n []) (k % 4) 0) × (getD (getD q n []) (k % 4) 0 < 32))
+unfolding rotation
+rotation-read {q} {n} i k q-is n-is =
+    let same : getD (getD q n []) (k % 4) 0 ≡ rotation i k = λ t. getD (getD (q-is t) (n-is t) []) (k % 4) 0 in
+    (same, (omega (arith, same, rotation-above i k), omega (arith, same, rotation-below i k)))

@@ -1,10 +1,10 @@
--- A state as an array of its four columns, and the parts of a step.
+-- A state as an array of its four columns, and a step by its numbers.
 use mathlib.Core.List.{List, [], _∷_}
-use Prim.Native.Nat.{ℕ, _%_}
+use Prim.Native.Nat.{ℕ, _+_, _%_}
 use lib.Bits.{bitXor}
 use lib.ListN.{getD}
-use Rattle.simd.specs.Basic.{Family, small, large, rows, table}
-use Rattle.simd.specs.Constants.{smallExchanges, largeExchanges}
+use Rattle.simd.specs.Basic.{Family, rows, table}
+use Rattle.simd.specs.Constants.{exchange}
 use Rattle.simd.specs.Steps.{State, add, rotl, choose, rotation}
 
 abbrev pub fromColumns : List (List ℕ) → State
@@ -13,22 +13,23 @@ fromColumns l = record { a = getD l 0 []; b = getD l 1 []; c = getD l 2 []; d = 
 abbrev pub columns : State → List (List ℕ)
 columns s = s .a ∷ s .b ∷ s .c ∷ s .d ∷ []
 
--- The row exchanges of a family, and their number.
-abbrev pub exchanges : Family → List ℕ
-exchanges small = smallExchanges
-exchanges large = largeExchanges
+-- New B: A rotated by r.
+unfoldable pub newB : Family → ℕ → List ℕ → List ℕ
+newB f r a = table (rows f) (λ j. rotl (r % 32) (getD a j 0))
 
-abbrev pub period : Family → ℕ
-period small = 3
-period large = 7
-
--- New B in step i.
-unfoldable pub newB : Family → ℕ → State → List ℕ
-newB f i s = table (rows f) (λ j. rotl (rotation i i) (getD (s .a) j 0))
-
--- Word j of new A in step i from new B, by its numbers: the rotation q and the row exchange x.
-abbrev pub rowBy : Family → ℕ → ℕ → ℕ → List ℕ → List ℕ → State → ℕ → ℕ
-rowBy f i q x w b s j =
+-- Word j of new A in step i from new B: the sum rotated by s, plus the word of B in the row that x gives.
+abbrev pub wordA : Family → ℕ → ℕ → ℕ → List ℕ → List ℕ → List (List ℕ) → ℕ → ℕ
+wordA f i s x w b l j =
     add
-    (rotl (q % 32) (add (add (getD (s .d) j 0) (getD w j 0)) (choose i (getD (s .a) j 0) (getD (s .b) j 0) (getD (s .c) j 0))))
+    (rotl (s % 32)
+    (add (add (getD (getD l 3 []) j 0) (getD w j 0)) (choose i (getD (getD l 0 []) j 0) (getD (getD l 1 []) j 0) (getD (getD l 2 []) j 0))))
     (getD b (bitXor j x % rows f) 0)
+
+unfoldable pub newA : Family → ℕ → ℕ → ℕ → List ℕ → List ℕ → List (List ℕ) → List ℕ
+newA f i s x w b l = table (rows f) (wordA f i s x w b l)
+
+-- The columns after step i: new A, new B, B and C.
+unfoldable pub stepped : Family → ℕ → List ℕ → List (List ℕ) → List (List ℕ)
+stepped f i w l =
+    let b = newB f (rotation i i) (getD l 0 []) in
+    newA f i (rotation i (i + 1)) (exchange f i) w b l ∷ b ∷ getD l 1 [] ∷ getD l 2 [] ∷ []

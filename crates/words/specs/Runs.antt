@@ -4,11 +4,12 @@ use Prim.Native.Nat.{ℕ, zero, suc, _+_}
 use lib.ListN.{getD}
 use Rattle.simd.specs.Basic.{Family}
 use Rattle.simd.specs.Steps.{State, step}
+use Rattle.words.specs.Columns.{stepped}
 
--- Steps i to i + n - 1, step k with row k of w.
-unfoldable pub run : Family → List (List ℕ) → ℕ → ℕ → State → State
-run f w i zero s = s
-run f w i (suc n) s = step f (i + n) (getD w (i + n) []) (run f w i n s)
+-- Steps i to i + n - 1 on a state as its columns, step k with row k of w.
+unfoldable pub run : Family → List (List ℕ) → ℕ → ℕ → List (List ℕ) → List (List ℕ)
+run f w i zero l = l
+run f w i (suc n) l = stepped f (i + n) (getD w (i + n) []) (run f w i n l)
 
 -- Steps 32 to 35, with the columns of the old state h as words.
 unfoldable pub lastSteps : Family → State → State → State

@@ -1,8 +1,7 @@
-// Words: sum modulo 2^32, shifts, rotation, and the Boolean function and rotations of each step.
+// Words: sum modulo 2^32, shifts, rotation, and the Boolean function of each step.
 ghost use mathlib.Core.Path.{_≡_};
-ghost use Prim.Native.Nat.{_*_, _-_, _/_, _%_, _^_, _<_, min};
-ghost use Rattle.simd.specs.Constants.{rotations};
-ghost use Rattle.simd.specs.Steps.{add, rotl, IF, MAJ, choose, rotation as rotationOf};
+ghost use Prim.Native.Nat.{_*_, _-_, _/_, _%_, _^_};
+ghost use Rattle.simd.specs.Steps.{add, rotl, IF, MAJ, choose};
 
 fn sum(x: u32, y: u32) -> u32
     ensures { λ v. ⌜ v ≡ add x y ⌝ }
@@ -74,22 +73,4 @@ pub fn blend(i: usize, a: u32, b: u32, c: u32, d: u32, w: u32) -> u32
     ensures { λ v. ⌜ v ≡ add (add d w) (choose i a b c) ⌝ }
 {
     sum(sum(d, w), chosen(i, a, b, c))
-}
-
-// The round of step i: steps 32 to 35 go on with the last.
-fn round_of(i: usize) -> usize
-    ensures { λ n. ⌜ (n ≡ min (i / 8) 3) × (n < 4) ⌝ }
-{
-    if i < 24 {
-        return i / 8;
-    }
-    3
-}
-
-// Entry k mod 4 of the quadruple of step i.
-pub fn rotation(q: &[[u32; 4]; 4], i: usize, k: usize) -> u32
-    requires { ⌜ now q ≡ rotations ⌝ }
-    ensures { λ r. ⌜ (r ≡ rotationOf i k) × ((0 < r) × (r < 32)) ⌝ }
-{
-    q[round_of(i)][k % 4]
 }

@@ -8,9 +8,6 @@ use Rattle.expansion.proofs.Refused.{family-small, family-large, sizes,
 use Rattle.expansion.proofs.expand.Statement.{statement}
 use Rattle.expansion.proofs.expand.Tie as tie
 
-refusal-requires : tie.Need-refusal-requires
-refusal-requires c κs = search needs
-
 returns : tie.Need-returns
 returns c =
     let a = c .before .before .before .before .args in
@@ -23,9 +20,6 @@ write-small-requires : tie.Need-write-small-requires
 write-small-requires c κs =
     let a = c .before .before .before .before .before .before .args in
     sizes (a .width) (length (a .block .now)) (length (a .out .now)) small (family-small (a .width) (c .before .if2 .taken)) (allowed (c .before .before))
-
-same-length : tie.Need-same-length
-same-length c = search needs
 
 returns-2 : tie.Need-returns-2
 returns-2 c =
@@ -41,9 +35,6 @@ write-large-requires c κs =
     let a = c .before .before .before .before .before .before .args in
     sizes (a .width) (length (a .block .now)) (length (a .out .now)) large (family-large (a .width) (c .before .if2 .left)) (allowed (c .before .before))
 
-same-length-2 : tie.Need-same-length-2
-same-length-2 c = search needs
-
 returns-3 : tie.Need-returns-3
 returns-3 c =
     let way = c .before .before .before .before in
@@ -56,12 +47,5 @@ returns-3 c =
 pub expand-spec : {M : Type 1} → statement M
 expand-spec =
     tie.close
-    (tie.spec
-    refusal-requires
-    returns
-    write-small-requires
-    same-length
-    returns-2
-    write-large-requires
-    same-length-2
-    returns-3)
+    (tie.spec (λ c κs. search needs) returns write-small-requires (λ c. search needs) returns-2 write-large-requires
+    (λ c. search needs) returns-3)

@@ -1,8 +1,9 @@
+-- The invariant: the first i bytes are copied.
 use mathlib.Core.Path.{refl, sym, _∙_}
 use Prim.Native.Nat.{_≤_, _-_}
 use native.Mathlib.Omega.{arith}
 use lib.ListN.{length, getD}
-use Rattle.tail.proofs.Filling.{Filled, filled-none, filled-more, filled-all, take-table}
+use Rattle.bits.proofs.Filling.{Filled, filled-none, filled-more, filled-all, take-table}
 use Rattle.form.proofs.write_bytes.Statement.{statement}
 use Rattle.form.proofs.write_bytes.Tie as tie
 
@@ -15,23 +16,11 @@ abbrev μ-loop : tie.MeasureT-loop
 loop-holds : tie.Need-loop-holds Inv-loop μ-loop
 loop-holds c = (omega arith, filled-none (length (c .args .out .now)) (λ k. getD (c .args .src .now) k 0) (c .args .out .now) refl)
 
-shared-slice-read-out : tie.Need-shared-slice-read-out Inv-loop μ-loop
-shared-slice-read-out c = omega arith
-
-slice-write-out : tie.Need-slice-write-out Inv-loop μ-loop
-slice-write-out c = omega arith
-
-add-i : tie.Need-add-i Inv-loop μ-loop
-add-i c = omega arith
-
-loop-less : tie.Need-loop-less Inv-loop μ-loop
-loop-less c = omega arith
-
 loop-again : tie.Need-loop-again Inv-loop μ-loop
 loop-again c =
     let l = c .before .before .loop in
-    let s = c .before .before .before in
-    (omega arith, filled-more (length (s .args .out .now)) (l .i) (λ k. getD (s .args .src .now) k 0) (l .out) (getD (s .args .src .now) (l .i) 0) (l .inv .1) (omega arith) refl)
+    let a = c .before .before .before .args in
+    (omega arith, filled-more (length (a .out .now)) (l .i) (λ k. getD (a .src .now) k 0) (l .out) (getD (a .src .now) (l .i) 0) (l .inv .1) (omega arith) refl)
 
 same-length : tie.Need-same-length Inv-loop μ-loop
 same-length c = c .before .loop .inv .1 .size
@@ -46,14 +35,5 @@ returns c =
 pub write-bytes-spec : {M : Type 1} → statement M
 write-bytes-spec =
     tie.close
-    (tie.spec
-    Inv-loop
-    μ-loop
-    loop-holds
-    shared-slice-read-out
-    slice-write-out
-    add-i
-    loop-less
-    loop-again
-    same-length
-    returns)
+    (tie.spec Inv-loop μ-loop loop-holds (λ c. omega arith) (λ c. omega arith) (λ c. omega arith) (λ c. omega arith) loop-again
+    same-length returns)

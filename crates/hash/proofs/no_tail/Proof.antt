@@ -1,3 +1,4 @@
+-- A tail with no bits is 128 zeros.
 use mathlib.Core.Path.{refl}
 use Rattle.simd.specs.Basic.{table, sum}
 use Rattle.simd.specs.Message.{byteOf}

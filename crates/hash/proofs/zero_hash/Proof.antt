@@ -1,7 +1,8 @@
+-- Zeros hold no bits.
 use mathlib.Core.Path.{refl}
 use Rattle.simd.specs.Basic.{table, sum}
 use Rattle.simd.specs.Message.{byteOf}
-use Rattle.tail.specs.Zero.{padded}
+use Rattle.bits.specs.Zero.{padded}
 use Rattle.hash.specs.Open.{holding}
 use Rattle.hash.proofs.zero_hash.Statement.{statement}
 use Rattle.hash.proofs.zero_hash.Tie as tie

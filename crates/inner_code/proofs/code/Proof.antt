@@ -13,12 +13,6 @@ use Rattle.inner_code.proofs.Signed.{product-mag}
 use Rattle.inner_code.proofs.code.Statement.{statement}
 use Rattle.inner_code.proofs.code.Tie as tie
 
-cast-reduced : tie.Need-cast-reduced
-cast-reduced c = search needs
-
-lift-requires : tie.Need-lift-requires
-lift-requires c κs = search needs
-
 product : (c : tie.After-lift) → toZ w32 (c .before .args .c) *ℤ toZ w32 (ofZ w32 (c .lift .result)) ≡ pos (c .before .args .c) *ℤ lift (c .before .args .y)
 product c =
     rw (toZ-pos w32 {n = c .before .args .c} (omega arith), toZ-ofZ {w = w32} (record { sfits = c .lift .ok }), c .lift .ensures)
@@ -37,4 +31,4 @@ unfolding code
 returns c = c .reduced .ensures ∙ ap residue (toZ-ofZ (mul-reduced (c .before)) ∙ product (c .before))
 
 pub code-spec : {M : Type 1} → statement M
-code-spec = tie.close (tie.spec cast-reduced lift-requires mul-reduced reduced-requires returns)
+code-spec = tie.close (tie.spec (λ c. search needs) (λ c κs. search needs) mul-reduced reduced-requires returns)

@@ -8,9 +8,6 @@ use Rattle.inner_code.proofs.Signed.{lift-low, lift-high, centred}
 use Rattle.inner_code.proofs.lift.Statement.{statement}
 use Rattle.inner_code.proofs.lift.Tie as tie
 
-cast-z : tie.Need-cast-z
-cast-z c = search needs
-
 returns : tie.Need-returns
 returns c = let y = c .before .args .y in rw (toZ-pos w32 {n = y} (omega arith)) (sym (lift-low y (omega arith)))
 
@@ -25,4 +22,4 @@ returns-2 c =
     rw (toZ-ofZ (sub-result c), toZ-pos w32 {n = y} (omega arith)) (sym (lift-high y (omega arith)))
 
 pub lift-spec : {M : Type 1} → statement M
-lift-spec = tie.close (tie.spec cast-z returns sub-result returns-2)
+lift-spec = tie.close (tie.spec (λ c. search needs) returns sub-result returns-2)

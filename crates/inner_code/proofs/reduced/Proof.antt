@@ -15,13 +15,10 @@ cast-positive c =
     let below = raised-lt (c .args .z) (c .pre) in
     rw (toZ-ofZ (c .fits .z), raised-is (c .args .z) (c .pre), toZ-pos w32 {n = raised (c .args .z)} (omega arith)) (tt, record { fits = omega arith })
 
-cast-result : tie.Need-cast-result
-cast-result c = search needs
-
 returns : tie.Need-returns
 returns c =
     let below = raised-lt (c .args .z) (c .pre) in
     rw (toZ-ofZ (c .fits .z), raised-is (c .args .z) (c .pre), toZ-pos w32 {n = raised (c .args .z)} (omega arith)) (raised-residue (c .args .z) (c .pre))
 
 pub reduced-spec : {M : Type 1} → statement M
-reduced-spec = tie.close (tie.spec add-positive cast-positive cast-result returns)
+reduced-spec = tie.close (tie.spec add-positive cast-positive (λ c. search needs) returns)

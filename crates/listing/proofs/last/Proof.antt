@@ -1,4 +1,4 @@
--- `listing::last` meets its contract.
+-- The last line is that of the case at hand: a digest has none.
 use mathlib.Core.Bool.{false}
 use mathlib.Core.Path.{sym, ap, _∙_}
 use Prim.Native.Nat.{ℕ}
@@ -10,15 +10,6 @@ use borrow.Author.Needs.{needs}
 use Rattle.listing.proofs.last.Statement.{statement}
 use Rattle.listing.proofs.last.Tie as tie
 
-enum-told : tie.Need-enum-told
-enum-told c = search needs
-
-enum-known-end : tie.Need-enum-known-end
-enum-known-end c = search needs
-
-ending-requires : tie.Need-ending-requires
-ending-requires c κs = search needs
-
 returns : tie.Need-returns
 returns c =
     let a = c .before .before .before .args in
@@ -27,18 +18,17 @@ returns c =
       sym (over-nil (a .text .now) 0) ∙ ap (λ (n : Next). over (a .text .now) 0 (endText n (a .count))) told,
     )
 
-same-length : tie.Need-same-length
-same-length c = search needs
-
 returns-2 : tie.Need-returns-2
 returns-2 c =
-    let a = c .before .before .before .before .before .before .before .before .args in
     let call = c .before .before .ending in
-    let told = sym (c .before .before .before .before .before .end .given .1) in (
-      ap (λ (k : ℕ). record { refusal = 0; length = k; next = 0; more = false }) (call .ensures .0) ∙ ap (λ (n : Next). endLine n (a .count)) told,
+    let arm = c .before .before .before .before .before in
+    let a = arm .before .before .before .args in
+    let told = sym (arm .end .given .1) in (
+      ap (λ (k : ℕ). record { refusal = 0; length = k; next = 0; more = false }) (call .ensures .0)
+          ∙ ap (λ (n : Next). endLine n (a .count)) told,
       call .ensures .1 ∙ ap (λ (n : Next). over (a .text .now) 0 (endText n (a .count))) told,
     )
 
 pub last-spec : {M : Type 1} → statement M
 last-spec =
-    tie.close (tie.spec enum-told enum-known-end ending-requires returns same-length returns-2)
+    tie.close (tie.spec (λ c. search needs) (λ c. search needs) (λ c κs. search needs) returns (λ c. search needs) returns-2)

@@ -1,4 +1,4 @@
--- `reader::read` meets its contract: each return is a case of `readAt`.
+-- Each return is a case of `readAt`.
 use mathlib.Core.Path.{refl, sym, ap, _∙_}
 use Prim.Native.Nat.{ℕ, _+_}
 use Rattle.reader.specs.declared.Reading.the-variants.{Found}
@@ -12,53 +12,17 @@ returns : tie.Need-returns
 returns c =
     sym (read-none _ _ (c .if1 .taken))
 
-sub-left : tie.Need-sub-left
-sub-left c = search needs
-
-shared-slice-read-byte : tie.Need-shared-slice-read-byte
-shared-slice-read-byte c = search needs
-
 returns-2 : tie.Need-returns-2
 returns-2 c =
     read-short _ _ 1 3 _ (search needs) (c .before .match .keys1) refl (search needs)
-
-width-requires : tie.Need-width-requires
-width-requires c κs = search needs
-
-add-t14 : tie.Need-add-t14
-add-t14 c = search needs
 
 returns-3 : tie.Need-returns-3
 returns-3 c =
     read-short _ _ 2 33 _ (search needs) (c .before .match .keys2) refl (search needs)
 
-add-t16 : tie.Need-add-t16
-add-t16 c = search needs
-
-add-t18 : tie.Need-add-t18
-add-t18 c = search needs
-
 returns-4 : tie.Need-returns-4
 returns-4 c =
     read-short _ _ 3 34 _ (search needs) (c .before .match .keys3) refl (search needs)
-
-add-t20 : tie.Need-add-t20
-add-t20 c = search needs
-
-shared-slice-read-t22 : tie.Need-shared-slice-read-t22
-shared-slice-read-t22 c = search needs
-
-add-t23 : tie.Need-add-t23
-add-t23 c = search needs
-
-add-t25 : tie.Need-add-t25
-add-t25 c = search needs
-
-add-t27 : tie.Need-add-t27
-add-t27 c = search needs
-
-add-t29 : tie.Need-add-t29
-add-t29 c = search needs
 
 returns-5 : tie.Need-returns-5
 returns-5 c =
@@ -89,26 +53,6 @@ returns-10 c =
 pub read-spec : {M : Type 1} → statement M
 read-spec =
     tie.close
-    (tie.spec
-    returns
-    sub-left
-    shared-slice-read-byte
-    returns-2
-    width-requires
-    add-t14
-    returns-3
-    add-t16
-    add-t18
-    returns-4
-    add-t20
-    shared-slice-read-t22
-    add-t23
-    add-t25
-    add-t27
-    add-t29
-    returns-5
-    returns-6
-    returns-7
-    returns-8
-    returns-9
-    returns-10)
+    (tie.spec returns (λ c. search needs) (λ c. search needs) returns-2 (λ c κs. search needs) (λ c. search needs) returns-3
+    (λ c. search needs) (λ c. search needs) returns-4 (λ c. search needs) (λ c. search needs) (λ c. search needs)
+    (λ c. search needs) (λ c. search needs) (λ c. search needs) returns-5 returns-6 returns-7 returns-8 returns-9 returns-10)

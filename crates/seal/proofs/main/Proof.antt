@@ -1,82 +1,39 @@
--- `seal::main` is safe and ends: what was read lies within the tape's room.
+-- What was read lies within the tape's room.
 use mathlib.Core.Path.{sym, subst}
 use Prim.Native.Nat.{_≤_}
 use native.Mathlib.Omega.{arith}
+use borrow.Author.Needs.{needs}
 use lib.ListN.{length}
 use lib.Seq.{length-take-le}
-use Rattle.seal.specs.Input.{Within}
-use Rattle.seal.specs.declared.Input.{Input}
-use borrow.Author.Needs.{needs}
+use Rattle.seal_input.specs.Input.{Within}
+use Rattle.seal_input.specs.declared.Input.{Input}
 use Rattle.seal.proofs.main.Statement.{statement}
 use Rattle.seal.proofs.main.Tie as tie
 
-room-requires : tie.Need-room-requires
-room-requires c κs = search needs
-
-slice-aggregate-read-tape : tie.Need-slice-aggregate-read-tape
-slice-aggregate-read-tape c = search needs
-
-read-tape-requires : tie.Need-read-tape-requires
-read-tape-requires c κs = search needs
-
-enum-known-input : tie.Need-enum-known-input
-enum-known-input c = search needs
-
-enum-told : tie.Need-enum-told
-enum-told c = search needs
-
-slice-aggregate-fail : tie.Need-slice-aggregate-fail
-slice-aggregate-fail c = search needs
-
-fail-requires : tie.Need-fail-requires
-fail-requires c κs = search needs
-
-returns : tie.Need-returns
-returns c = search needs
-
-line-room-requires : tie.Need-line-room-requires
-line-room-requires c κs = search needs
+abbrev read : tie.After-input → tie.After-read-tape
+read c = c .before .before .before
 
 -- The bytes read.
-size : (c : tie.After-line-room) → c .before .before .input .given .0 .0 ≤ length (c .before .before .before .before .before .read-tape .last .0)
+size : (c : tie.After-input) → c .input .given .0 .0 ≤ length (read c .read-tape .last .0)
 size c =
-    let call = c .before .before .before .before .before .read-tape in
-    subst (λ (i : Input). Within i (length (call .last .0))) (c .before .before .input .given .1) (call .ensures)
+    let call = read c .read-tape in
+    subst (λ (i : Input). Within i (length (call .last .0))) (c .input .given .1) (call .ensures)
 
 array-share-prefix-tape : tie.Need-array-share-prefix-tape
-array-share-prefix-tape c = size c
+array-share-prefix-tape c = size (c .before)
 
 slice-aggregate-print : tie.Need-slice-aggregate-print
-slice-aggregate-print c = sym (length-take-le (c .before .before .before .input .given .0 .0) (c .before .before .before .before .before .before .read-tape .last .0) (size (c .before)))
-
-slice-aggregate-print-2 : tie.Need-slice-aggregate-print-2
-slice-aggregate-print-2 c = search needs
+slice-aggregate-print c = sym (length-take-le _ _ (size (c .before .before)))
 
 print-requires : tie.Need-print-requires
 print-requires c κs =
-    let read = c .before .before .before .before .before .before .before .read-tape in (
-      omega (arith, length-take-le (c .before .before .before .before .input .given .0 .0) (read .last .0) (size (c .before .before)), size (c .before .before), read .kept .0, c .before .before .before .before .before .before .before .before .before .room .ensures),
-      sym (c .before .before .line-room .ensures),
-    )
-
-returns-2 : tie.Need-returns-2
-returns-2 c = search needs
+    let input = c .before .before in
+    let call = read input in
+    omega (arith, slice-aggregate-print c, size input, call .read-tape .kept .0, call .before .before .room .ensures)
 
 pub main-spec : {M : Type 1} → statement M
 main-spec =
     tie.close
-    (tie.spec
-    room-requires
-    slice-aggregate-read-tape
-    read-tape-requires
-    enum-known-input
-    enum-told
-    slice-aggregate-fail
-    fail-requires
-    returns
-    line-room-requires
-    array-share-prefix-tape
-    slice-aggregate-print
-    slice-aggregate-print-2
-    print-requires
-    returns-2)
+    (tie.spec (λ c κs. search needs) (λ c. search needs) (λ c κs. search needs) (λ c. search needs) (λ c. search needs)
+    (λ c. search needs) (λ c κs. search needs) (λ c. search needs) array-share-prefix-tape slice-aggregate-print print-requires
+    (λ c. search needs))

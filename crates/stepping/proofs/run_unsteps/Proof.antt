@@ -1,70 +1,13 @@
--- A refusal leaves the lent bytes as they are. Otherwise state, block and output have their family's size, and the new state is written.
-use mathlib.Core.Path.{_≡_, sym, _∙_}
-use lib.ListN.{length}
+-- What run leaves in this direction.
 use borrow.Author.Needs.{needs}
-use Rattle.simd.specs.Basic.{small, large}
-use Rattle.expansion.proofs.Refused.{family-small, family-large}
-use Rattle.stepping.specs.Call.{stepsRefusal, backward}
-use Rattle.stepping.proofs.Calls.{sizes, refused, accepted}
+use Rattle.block_steps.specs.Moved.{turned, moved}
+use Rattle.stepping.specs.Call.{backward}
 use Rattle.stepping.proofs.run_unsteps.Statement.{statement}
 use Rattle.stepping.proofs.run_unsteps.Tie as tie
 
-refusal-requires : tie.Need-refusal-requires
-refusal-requires c κs = search needs
-
 returns : tie.Need-returns
-returns c =
-    let a = c .before .before .before .before .before .args in (
-      c .before .refusal .ensures,
-      refused backward (a .width) (a .last) (a .state .now) (a .block .now) (a .out .now) (λ none. c .if1 .taken (c .before .refusal .ensures ∙ none)),
-    )
-
-allowed : (c : tie.Else1) → let a = c .before .before .before .before .before .args in stepsRefusal (a .width) (length (a .state .now)) (length (a .block .now)) (length (a .out .now)) ≡ 0
-allowed c = sym (c .before .refusal .ensures) ∙ c .if1 .left
-
-backward-small-requires : tie.Need-backward-small-requires
-backward-small-requires c κs =
-    let a = c .before .before .before .before .before .before .before .args in
-    sizes (a .width) (length (a .state .now)) (length (a .block .now)) (length (a .out .now)) small (family-small (a .width) (c .before .if2 .taken)) (allowed (c .before .before))
-
-same-length : tie.Need-same-length
-same-length c = search needs
-
-returns-2 : tie.Need-returns-2
-returns-2 c =
-    let way = c .before .before .before .before in
-    let a = way .before .before .before .before .before .before .args in (
-      sym (allowed (way .before)),
-      c .before .before .backward-small .ensures
-          ∙ accepted backward (a .width) (a .last) (a .state .now) (a .block .now) (a .out .now) small (family-small (a .width) (way .if2 .taken)) (allowed (way .before)),
-    )
-
-backward-large-requires : tie.Need-backward-large-requires
-backward-large-requires c κs =
-    let a = c .before .before .before .before .before .before .before .args in
-    sizes (a .width) (length (a .state .now)) (length (a .block .now)) (length (a .out .now)) large (family-large (a .width) (c .before .if2 .left)) (allowed (c .before .before))
-
-same-length-2 : tie.Need-same-length-2
-same-length-2 c = search needs
-
-returns-3 : tie.Need-returns-3
-returns-3 c =
-    let way = c .before .before .before .before in
-    let a = way .before .before .before .before .before .before .args in (
-      sym (allowed (way .before)),
-      c .before .before .backward-large .ensures
-          ∙ accepted backward (a .width) (a .last) (a .state .now) (a .block .now) (a .out .now) large (family-large (a .width) (way .if2 .left)) (allowed (way .before)),
-    )
+unfolding backward moved turned
+returns c = c .before .before .run .ensures
 
 pub run-unsteps-spec : {M : Type 1} → statement M
-run-unsteps-spec =
-    tie.close
-    (tie.spec
-    refusal-requires
-    returns
-    backward-small-requires
-    same-length
-    returns-2
-    backward-large-requires
-    same-length-2
-    returns-3)
+run-unsteps-spec = tie.close (tie.spec (λ c κs. search needs) (λ c. search needs) returns)

@@ -1,3 +1,4 @@
+-- Each branch decides the tests of the definition in their order.
 use borrow.Author.Tests.{eq-eqb, ne-eqb, le-leb, lt-leb}
 use Rattle.stepping.specs.Call.{sizeRefusal}
 use Rattle.stepping.proofs.size_refusal.Statement.{statement}

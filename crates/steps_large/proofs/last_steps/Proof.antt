@@ -1,77 +1,21 @@
-use lib.Dec.{lit<}
+-- Steps 32 to 35, with the old columns as words.
 use Rattle.simd.specs.Basic.{large}
 use Rattle.words.proofs.Runs.{last-four}
 use borrow.Author.Needs.{needs}
 use Rattle.steps_large.proofs.last_steps.Statement.{statement}
 use Rattle.steps_large.proofs.last_steps.Tie as tie
 
-rotations-requires : tie.Need-rotations-requires
-rotations-requires c κs = search needs
-
-large-exchanges-requires : tie.Need-large-exchanges-requires
-large-exchanges-requires c κs = search needs
-
-turned-requires : tie.Need-turned-requires
-turned-requires c κs = (c .before .before .before .before .rotations .ensures, lit< tt)
-
-index-1-mixed : tie.Need-index-1-mixed
-index-1-mixed c = search needs
-
-mixed-requires : tie.Need-mixed-requires
-mixed-requires c κs = ((c .before .before .before .before .before .before .rotations .ensures, c .before .before .before .before .before .large-exchanges .ensures), (lit< tt, c .before .turned .ensures))
-
-turned-requires-2 : tie.Need-turned-requires-2
-turned-requires-2 c κs = (c .before .before .before .before .before .before .before .before .rotations .ensures, lit< tt)
-
-index-1-mixed-2 : tie.Need-index-1-mixed-2
-index-1-mixed-2 c = search needs
-
-mixed-requires-2 : tie.Need-mixed-requires-2
-mixed-requires-2 c κs = ((c .before .before .before .before .before .before .before .before .before .before .rotations .ensures, c .before .before .before .before .before .before .before .before .before .large-exchanges .ensures), (lit< tt, c .before .turned2 .ensures))
-
-turned-requires-3 : tie.Need-turned-requires-3
-turned-requires-3 c κs = (c .before .before .before .before .before .before .before .before .before .before .before .before .rotations .ensures, lit< tt)
-
-index-1-mixed-3 : tie.Need-index-1-mixed-3
-index-1-mixed-3 c = search needs
-
-mixed-requires-3 : tie.Need-mixed-requires-3
-mixed-requires-3 c κs = ((c .before .before .before .before .before .before .before .before .before .before .before .before .before .before .rotations .ensures, c .before .before .before .before .before .before .before .before .before .before .before .before .before .large-exchanges .ensures), (lit< tt, c .before .turned3 .ensures))
-
-turned-requires-4 : tie.Need-turned-requires-4
-turned-requires-4 c κs = (c .before .before .before .before .before .before .before .before .before .before .before .before .before .before .before .before .rotations .ensures, lit< tt)
-
-index-1-mixed-4 : tie.Need-index-1-mixed-4
-index-1-mixed-4 c = search needs
-
-mixed-requires-4 : tie.Need-mixed-requires-4
-mixed-requires-4 c κs = ((c .before .before .before .before .before .before .before .before .before .before .before .before .before .before .before .before .before .before .rotations .ensures, c .before .before .before .before .before .before .before .before .before .before .before .before .before .before .before .before .before .large-exchanges .ensures), (lit< tt, c .before .turned4 .ensures))
-
 returns : tie.Need-returns
 returns c =
-    let p = c .before .before .before .before .before .before .before .before .before .before .before .before .before .before .before .before .before .before .before .before .args in
-    last-four large (p .old .now) (p .st)
-    (c .before .before .before .before .before .before .before .before .before .before .before .before .mixed .ensures)
-    (c .before .before .before .before .before .before .before .before .mixed2 .ensures)
-    (c .before .before .before .before .mixed3 .ensures)
-    (c .mixed4 .ensures)
+    let s3 = c .before .before .before .before in
+    let s2 = s3 .before .before .before .before in
+    let s1 = s2 .before .before .before .before in
+    let p = s1 .before .before .before .before .args in
+    last-four large (p .old .now) (p .st) (s1 .mixed .ensures) (s2 .mixed2 .ensures) (s3 .mixed3 .ensures) (c .mixed4 .ensures)
 
 pub last-steps-spec : {M : Type 1} → statement M
 last-steps-spec =
     tie.close
-    (tie.spec
-    rotations-requires
-    large-exchanges-requires
-    turned-requires
-    index-1-mixed
-    mixed-requires
-    turned-requires-2
-    index-1-mixed-2
-    mixed-requires-2
-    turned-requires-3
-    index-1-mixed-3
-    mixed-requires-3
-    turned-requires-4
-    index-1-mixed-4
-    mixed-requires-4
-    returns)
+    (tie.spec (λ c κs. search needs) (λ c. search needs) (λ c κs. c .before .turned .ensures) (λ c κs. search needs) (λ c. search needs)
+    (λ c κs. c .before .turned2 .ensures) (λ c κs. search needs) (λ c. search needs) (λ c κs. c .before .turned3 .ensures) (λ c κs. search needs)
+    (λ c. search needs) (λ c κs. c .before .turned4 .ensures) returns)

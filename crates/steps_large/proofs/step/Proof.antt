@@ -1,28 +1,15 @@
+-- One step, by its number, is the step of the definition.
+use mathlib.Core.Path.{_∙_}
+use Rattle.simd.specs.Basic.{large}
+use Rattle.words.proofs.Columns.{stepped-step}
 use borrow.Author.Needs.{needs}
 use Rattle.steps_large.proofs.step.Statement.{statement}
 use Rattle.steps_large.proofs.step.Tie as tie
 
-rotations-requires : tie.Need-rotations-requires
-rotations-requires c κs = search needs
-
-large-exchanges-requires : tie.Need-large-exchanges-requires
-large-exchanges-requires c κs = search needs
-
-turned-requires : tie.Need-turned-requires
-turned-requires c κs = search needs
-
-mixed-requires : tie.Need-mixed-requires
-mixed-requires c κs = search needs
-
 returns : tie.Need-returns
-returns c = c .mixed .ensures
+returns c =
+    let p = c .before .before .before .before .args in
+    c .mixed .ensures ∙ stepped-step large (p .i) (p .t2) (p .st)
 
 pub step-spec : {M : Type 1} → statement M
-step-spec =
-    tie.close
-    (tie.spec
-    rotations-requires
-    large-exchanges-requires
-    turned-requires
-    mixed-requires
-    returns)
+step-spec = tie.close (tie.spec (λ c κs. search needs) (λ c κs. c .before .turned .ensures) returns)

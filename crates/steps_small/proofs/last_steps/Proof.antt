@@ -1,61 +1,21 @@
-use lib.Dec.{lit<}
+-- Steps 32 to 35, with the old columns as words.
 use Rattle.simd.specs.Basic.{small}
 use Rattle.words.proofs.Runs.{last-four}
 use borrow.Author.Needs.{needs}
 use Rattle.steps_small.proofs.last_steps.Statement.{statement}
 use Rattle.steps_small.proofs.last_steps.Tie as tie
 
-rotations-requires : tie.Need-rotations-requires
-rotations-requires c κs = search needs
-
-small-exchanges-requires : tie.Need-small-exchanges-requires
-small-exchanges-requires c κs = search needs
-
-index-1-step-by : tie.Need-index-1-step-by
-index-1-step-by c = search needs
-
-step-by-requires : tie.Need-step-by-requires
-step-by-requires c κs = ((c .before .before .before .before .before .rotations .ensures, c .before .before .before .before .small-exchanges .ensures), lit< tt)
-
-index-1-step-by-2 : tie.Need-index-1-step-by-2
-index-1-step-by-2 c = search needs
-
-step-by-requires-2 : tie.Need-step-by-requires-2
-step-by-requires-2 c κs = ((c .before .before .before .before .before .before .before .before .rotations .ensures, c .before .before .before .before .before .before .before .small-exchanges .ensures), lit< tt)
-
-index-1-step-by-3 : tie.Need-index-1-step-by-3
-index-1-step-by-3 c = search needs
-
-step-by-requires-3 : tie.Need-step-by-requires-3
-step-by-requires-3 c κs = ((c .before .before .before .before .before .before .before .before .before .before .before .rotations .ensures, c .before .before .before .before .before .before .before .before .before .before .small-exchanges .ensures), lit< tt)
-
-index-1-step-by-4 : tie.Need-index-1-step-by-4
-index-1-step-by-4 c = search needs
-
-step-by-requires-4 : tie.Need-step-by-requires-4
-step-by-requires-4 c κs = ((c .before .before .before .before .before .before .before .before .before .before .before .before .before .before .rotations .ensures, c .before .before .before .before .before .before .before .before .before .before .before .before .before .small-exchanges .ensures), lit< tt)
-
 returns : tie.Need-returns
 returns c =
-    let p = c .before .before .before .before .before .before .before .before .before .before .before .before .before .before .before .before .args in
-    last-four small (p .old .now) (p .st)
-    (c .before .before .before .before .before .before .before .before .before .step-by .ensures)
-    (c .before .before .before .before .before .before .step-by2 .ensures)
-    (c .before .before .before .step-by3 .ensures)
-    (c .step-by4 .ensures)
+    let s3 = c .before .before .before .before in
+    let s2 = s3 .before .before .before .before in
+    let s1 = s2 .before .before .before .before in
+    let p = s1 .before .before .before .before .args in
+    last-four small (p .old .now) (p .st) (s1 .step .ensures) (s2 .step2 .ensures) (s3 .step3 .ensures) (c .step4 .ensures)
 
 pub last-steps-spec : {M : Type 1} → statement M
 last-steps-spec =
     tie.close
-    (tie.spec
-    rotations-requires
-    small-exchanges-requires
-    index-1-step-by
-    step-by-requires
-    index-1-step-by-2
-    step-by-requires-2
-    index-1-step-by-3
-    step-by-requires-3
-    index-1-step-by-4
-    step-by-requires-4
-    returns)
+    (tie.spec (λ c. search needs) (λ c κs. search needs) (λ c κs. c .before .numbers .ensures) (λ c. search needs) (λ c κs. search needs)
+    (λ c κs. c .before .numbers2 .ensures) (λ c. search needs) (λ c κs. search needs) (λ c κs. c .before .numbers3 .ensures) (λ c. search needs)
+    (λ c κs. search needs) (λ c κs. c .before .numbers4 .ensures) returns)

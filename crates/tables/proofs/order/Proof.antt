@@ -1,3 +1,4 @@
+-- The constant is the definition, entry by entry.
 use mathlib.Core.Path.{refl}
 use Rattle.simd.specs.Constants.{order}
 use Rattle.tables.proofs.order.Statement.{statement}

@@ -1,3 +1,4 @@
+-- A block has 64 bytes up to width 256, and 128 above.
 use borrow.Author.Tests.{le-leb, lt-leb}
 use Rattle.tail.proofs.block_bytes.Statement.{statement}
 use Rattle.tail.proofs.block_bytes.Tie as tie

@@ -1,9 +1,10 @@
+-- The invariant: the first i words are copied.
 use mathlib.Core.Path.{refl, sym, _∙_}
 use Prim.Native.Nat.{_≤_, _-_}
 use native.Mathlib.Omega.{arith}
 use borrow.Author.Needs.{needs}
 use lib.ListN.{getD}
-use Rattle.tail.proofs.Filling.{Filled, filled-none, filled-more, filled-all, take-table}
+use Rattle.bits.proofs.Filling.{Filled, filled-none, filled-more, filled-all, take-table}
 use Rattle.tail.proofs.narrow.Statement.{statement}
 use Rattle.tail.proofs.narrow.Tie as tie
 
@@ -15,24 +16,6 @@ abbrev μ-loop : tie.MeasureT-loop
 
 loop-holds : tie.Need-loop-holds Inv-loop μ-loop
 loop-holds c = (search needs, filled-none 16 (λ k. getD (c .args .t1) k 0) _ refl)
-
-mul-words : tie.Need-mul-words Inv-loop μ-loop
-mul-words c = search needs
-
-array-read-words : tie.Need-array-read-words Inv-loop μ-loop
-array-read-words c = search needs
-
-mul-words-2 : tie.Need-mul-words-2 Inv-loop μ-loop
-mul-words-2 c = search needs
-
-array-write-words : tie.Need-array-write-words Inv-loop μ-loop
-array-write-words c = search needs
-
-add-i : tie.Need-add-i Inv-loop μ-loop
-add-i c = search needs
-
-loop-less : tie.Need-loop-less Inv-loop μ-loop
-loop-less c = search needs
 
 loop-again : tie.Need-loop-again Inv-loop μ-loop
 loop-again c =
@@ -50,4 +33,5 @@ returns c =
 pub narrow-spec : {M : Type 1} → statement M
 narrow-spec =
     tie.close
-    (tie.spec Inv-loop μ-loop loop-holds mul-words array-read-words mul-words-2 array-write-words add-i loop-less loop-again returns)
+    (tie.spec Inv-loop μ-loop loop-holds (λ c. search needs) (λ c. search needs) (λ c. search needs) (λ c. search needs)
+    (λ c. search needs) (λ c. search needs) loop-again returns)

@@ -1,8 +1,9 @@
+-- The invariant: the first i words are copied, and the others are 0.
 use mathlib.Core.Path.{refl}
 use Prim.Native.Nat.{_≤_, _-_}
 use native.Mathlib.Omega.{arith}
 use borrow.Author.Needs.{needs}
-use Rattle.tail.proofs.Filling.{Copied, copied-none, copied-more, copied-all}
+use Rattle.bits.proofs.Filling.{Copied, copied-none, copied-more, copied-all}
 use Rattle.tail.proofs.widen.Statement.{statement}
 use Rattle.tail.proofs.widen.Tie as tie
 
@@ -14,24 +15,6 @@ abbrev μ-loop : tie.MeasureT-loop
 
 loop-holds : tie.Need-loop-holds Inv-loop μ-loop
 loop-holds c = (search needs, copied-none 32 (c .args .t1))
-
-mul-words : tie.Need-mul-words Inv-loop μ-loop
-mul-words c = search needs
-
-array-read-words : tie.Need-array-read-words Inv-loop μ-loop
-array-read-words c = search needs
-
-mul-words-2 : tie.Need-mul-words-2 Inv-loop μ-loop
-mul-words-2 c = search needs
-
-array-write-words : tie.Need-array-write-words Inv-loop μ-loop
-array-write-words c = search needs
-
-add-i : tie.Need-add-i Inv-loop μ-loop
-add-i c = search needs
-
-loop-less : tie.Need-loop-less Inv-loop μ-loop
-loop-less c = search needs
 
 loop-again : tie.Need-loop-again Inv-loop μ-loop
 loop-again c =
@@ -46,4 +29,5 @@ returns c =
 pub widen-spec : {M : Type 1} → statement M
 widen-spec =
     tie.close
-    (tie.spec Inv-loop μ-loop loop-holds mul-words array-read-words mul-words-2 array-write-words add-i loop-less loop-again returns)
+    (tie.spec Inv-loop μ-loop loop-holds (λ c. search needs) (λ c. search needs) (λ c. search needs) (λ c. search needs)
+    (λ c. search needs) (λ c. search needs) loop-again returns)

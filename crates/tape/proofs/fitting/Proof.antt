@@ -1,4 +1,4 @@
--- `tape::fitting` meets its contract.
+-- In each branch the size that is answered fits both bounds.
 use native.Mathlib.Omega.{arith}
 use borrow.Author.Tests.{le-leb, lt-leb}
 use Rattle.tape.proofs.fitting.Statement.{statement}

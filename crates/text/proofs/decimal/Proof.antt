@@ -1,4 +1,4 @@
--- `text::decimal` meets its contract.
+-- The byte after the number stands where its digits end.
 use mathlib.Core.Path.{ap, _∙_}
 use mathlib.Core.List.{List, [], _∷_}
 use Prim.Native.Nat.{ℕ}
@@ -9,18 +9,6 @@ use Rattle.text.proofs.Over.{over-byte}
 use borrow.Author.Needs.{needs}
 use Rattle.text.proofs.decimal.Statement.{statement}
 use Rattle.text.proofs.decimal.Tie as tie
-
-digits-requires : tie.Need-digits-requires
-digits-requires c κs = search needs
-
-slice-write-text : tie.Need-slice-write-text
-slice-write-text c = search needs
-
-add-result : tie.Need-add-result
-add-result c = search needs
-
-same-length : tie.Need-same-length
-same-length c = search needs
 
 returns : tie.Need-returns
 unfolding decimalOf
@@ -34,4 +22,4 @@ returns c =
     )
 
 pub decimal-spec : {M : Type 1} → statement M
-decimal-spec = tie.close (tie.spec digits-requires slice-write-text add-result same-length returns)
+decimal-spec = tie.close (tie.spec (λ c κs. search needs) (λ c. search needs) (λ c. search needs) (λ c. search needs) returns)

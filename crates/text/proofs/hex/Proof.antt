@@ -1,4 +1,4 @@
--- `text::hex` meets its contract: after i turns the digits of the first i bytes stand at the place.
+-- After i turns the digits of the first i bytes stand at the place.
 use mathlib.Core.Path.{_≡_, refl, sym, ap, _∙_}
 use mathlib.Core.List.{List, [], _∷_}
 use Prim.Native.Nat.{ℕ, _+_, _-_, _*_, _≤_}
@@ -24,46 +24,17 @@ loop-holds c =
     let a = c .before .before .args in
     (search needs, refl, sym (over-nil (a .text .now) (a .at)))
 
-shared-slice-read-b : tie.Need-shared-slice-read-b Inv-loop μ-loop
-shared-slice-read-b c = search needs
-
 glyph-requires : tie.Need-glyph-requires Inv-loop μ-loop
 glyph-requires c κs = omega (arith, c .shared-slice-known2 .given (c .before .before .loop .i))
-
-mul-text : tie.Need-mul-text Inv-loop μ-loop
-mul-text c = search needs
-
-add-text : tie.Need-add-text Inv-loop μ-loop
-add-text c = search needs
-
-slice-write-text : tie.Need-slice-write-text Inv-loop μ-loop
-slice-write-text c = search needs
-
-glyph-requires-2 : tie.Need-glyph-requires-2 Inv-loop μ-loop
-glyph-requires-2 c κs = search needs
-
-mul-text-2 : tie.Need-mul-text-2 Inv-loop μ-loop
-mul-text-2 c = search needs
-
-add-text-2 : tie.Need-add-text-2 Inv-loop μ-loop
-add-text-2 c = search needs
-
-add-text-3 : tie.Need-add-text-3 Inv-loop μ-loop
-add-text-3 c = search needs
 
 slice-write-text-2 : tie.Need-slice-write-text-2 Inv-loop μ-loop
 slice-write-text-2 c = simp length-set (omega arith)
 
-add-i : tie.Need-add-i Inv-loop μ-loop
-add-i c = search needs
-
-loop-less : tie.Need-loop-less Inv-loop μ-loop
-loop-less c = search needs
-
 loop-again : tie.Need-loop-again Inv-loop μ-loop
 loop-again c =
-    let a = c .before .before .before .before .before .before .before .args in
-    let l = c .before .before .before .before .loop in
+    let turn = c .before .before .before .before in
+    let a = turn .before .before .before .args in
+    let l = turn .loop in
     let t = a .text .now in
     let n = a .at + 2 * l .i in
     let done = take (l .i) (a .bytes .now) in
@@ -76,24 +47,6 @@ loop-again c =
           ∙ over-pair t (a .at) (hexOf done) _ _ n (omega (arith, length-hex done)) (omega arith)
           ∙ ap (over t (a .at)) (sym (hex-more (a .bytes .now) (l .i) (search needs))),
     )
-
-mul-text-3 : tie.Need-mul-text-3 Inv-loop μ-loop
-mul-text-3 c = search needs
-
-add-text-4 : tie.Need-add-text-4 Inv-loop μ-loop
-add-text-4 c = search needs
-
-slice-write-text-3 : tie.Need-slice-write-text-3 Inv-loop μ-loop
-slice-write-text-3 c = search needs
-
-mul-result : tie.Need-mul-result Inv-loop μ-loop
-mul-result c = search needs
-
-add-result : tie.Need-add-result Inv-loop μ-loop
-add-result c = search needs
-
-add-result-2 : tie.Need-add-result-2 Inv-loop μ-loop
-add-result-2 c = search needs
 
 same-length : tie.Need-same-length Inv-loop μ-loop
 same-length c = simp length-set (c .before .loop .inv .1)
@@ -115,28 +68,7 @@ returns c =
 pub hex-spec : {M : Type 1} → statement M
 hex-spec =
     tie.close
-    (tie.spec
-    Inv-loop
-    μ-loop
-    loop-holds
-    shared-slice-read-b
-    glyph-requires
-    mul-text
-    add-text
-    slice-write-text
-    glyph-requires-2
-    mul-text-2
-    add-text-2
-    add-text-3
-    slice-write-text-2
-    add-i
-    loop-less
-    loop-again
-    mul-text-3
-    add-text-4
-    slice-write-text-3
-    mul-result
-    add-result
-    add-result-2
-    same-length
-    returns)
+    (tie.spec Inv-loop μ-loop loop-holds (λ c. search needs) glyph-requires (λ c. search needs) (λ c. search needs)
+    (λ c. search needs) (λ c κs. search needs) (λ c. search needs) (λ c. search needs) (λ c. search needs) slice-write-text-2
+    (λ c. search needs) (λ c. search needs) loop-again (λ c. search needs) (λ c. search needs) (λ c. search needs)
+    (λ c. search needs) (λ c. search needs) (λ c. search needs) same-length returns)

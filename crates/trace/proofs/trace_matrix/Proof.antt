@@ -1,69 +1,27 @@
--- As for `expansion::expand`.
-use mathlib.Core.Path.{_≡_, sym, _∙_}
-use lib.ListN.{length}
+-- Refused as `expansion::expand` is; else the words of Z stand in the front of the output.
 use borrow.Author.Needs.{needs}
-use Rattle.simd.specs.Basic.{small, large}
-use Rattle.expansion.specs.Call.{expandRefusal}
-use Rattle.expansion.proofs.Refused.{family-small, family-large, sizes}
-use Rattle.trace.specs.Traced.{matrixWords}
-use Rattle.trace.proofs.Laws.{trace-refused, trace-accepted}
+use Rattle.trace_values.specs.Values.{matrixWords}
+use Rattle.trace.proofs.Laws.{trace-refused, trace-sizes, trace-accepted}
 use Rattle.trace.proofs.trace_matrix.Statement.{statement}
 use Rattle.trace.proofs.trace_matrix.Tie as tie
-
-refusal-requires : tie.Need-refusal-requires
-refusal-requires c κs = search needs
 
 returns : tie.Need-returns
 returns c =
     let a = c .before .before .before .before .args in
-    (c .before .refusal .ensures, trace-refused matrixWords (a .width) (a .last) (a .block .now) (a .out .now) (λ none. c .if1 .taken (c .before .refusal .ensures ∙ none)))
+    trace-refused matrixWords (a .width) (a .last) (a .block .now) (a .out .now) (c .before .refusal .ensures) (c .if1 .taken)
 
-allowed : (c : tie.Else1) → let a = c .before .before .before .before .args in expandRefusal (a .width) (length (a .block .now)) (length (a .out .now)) ≡ 0
-allowed c = sym (c .before .refusal .ensures) ∙ c .if1 .left
-
-matrix-small-requires : tie.Need-matrix-small-requires
-matrix-small-requires c κs =
-    let a = c .before .before .before .before .before .before .args in
-    sizes (a .width) (length (a .block .now)) (length (a .out .now)) small (family-small (a .width) (c .before .if2 .taken)) (allowed (c .before .before))
-
-same-length : tie.Need-same-length
-same-length c = search needs
+matrix-words-requires : tie.Need-matrix-words-requires
+matrix-words-requires c κs =
+    let e = c .before in
+    let a = e .before .before .before .before .args in
+    trace-sizes matrixWords (a .width) (a .last) (a .block .now) (a .out .now) (e .before .refusal .ensures) (e .if1 .left)
 
 returns-2 : tie.Need-returns-2
 returns-2 c =
-    let way = c .before .before .before .before in
-    let a = way .before .before .before .before .before .args in (
-      sym (allowed (way .before)),
-      c .before .before .matrix-small .ensures
-          ∙ trace-accepted matrixWords (a .width) (a .last) (a .block .now) (a .out .now) small (family-small (a .width) (way .if2 .taken)) (allowed (way .before)),
-    )
-
-matrix-large-requires : tie.Need-matrix-large-requires
-matrix-large-requires c κs =
-    let a = c .before .before .before .before .before .before .args in
-    sizes (a .width) (length (a .block .now)) (length (a .out .now)) large (family-large (a .width) (c .before .if2 .left)) (allowed (c .before .before))
-
-same-length-2 : tie.Need-same-length-2
-same-length-2 c = search needs
-
-returns-3 : tie.Need-returns-3
-returns-3 c =
-    let way = c .before .before .before .before in
-    let a = way .before .before .before .before .before .args in (
-      sym (allowed (way .before)),
-      c .before .before .matrix-large .ensures
-          ∙ trace-accepted matrixWords (a .width) (a .last) (a .block .now) (a .out .now) large (family-large (a .width) (way .if2 .left)) (allowed (way .before)),
-    )
+    let e = c .before .before .before .before in
+    let a = e .before .before .before .before .args in
+    trace-accepted matrixWords (a .width) (a .last) (a .block .now) (a .out .now) (e .before .refusal .ensures) (e .if1 .left)
+    (c .before .before .matrix-words .ensures)
 
 pub trace-matrix-spec : {M : Type 1} → statement M
-trace-matrix-spec =
-    tie.close
-    (tie.spec
-    refusal-requires
-    returns
-    matrix-small-requires
-    same-length
-    returns-2
-    matrix-large-requires
-    same-length-2
-    returns-3)
+trace-matrix-spec = tie.close (tie.spec (λ c κs. search needs) returns matrix-words-requires (λ c. search needs) returns-2)

@@ -1,76 +1,53 @@
--- As for `stepping::run_steps`.
-use mathlib.Core.Path.{_≡_, sym, _∙_}
-use Prim.Native.Nat.{_/_}
-use lib.ListN.{length}
+-- Refused as the steps are, for a ninth of the room; else the states of the width's family are written.
 use borrow.Author.Needs.{needs}
 use Rattle.simd.specs.Basic.{small, large}
 use Rattle.expansion.proofs.Refused.{family-small, family-large}
-use Rattle.stepping.specs.Call.{stepsRefusal}
-use Rattle.trace.specs.States.{statesRefusal}
-use Rattle.trace.proofs.Between.{room, states-refused, states-accepted}
+use Rattle.trace.proofs.Laws.{states-refused, states-sizes, states-accepted}
 use Rattle.trace.proofs.trace_steps.Statement.{statement}
 use Rattle.trace.proofs.trace_steps.Tie as tie
 
-refusal-requires : tie.Need-refusal-requires
-refusal-requires c κs = search needs
+abbrev start : tie.Else1 → tie.Start
+start e = e .before .before .before .before .before
 
 returns : tie.Need-returns
-unfolding statesRefusal
 returns c =
-    let a = c .before .before .before .before .before .args in (
-      c .before .refusal .ensures,
-      states-refused (a .width) (a .last) (a .state .now) (a .block .now) (a .out .now) (λ none. c .if1 .taken (c .before .refusal .ensures ∙ none)),
-    )
+    let a = c .before .before .before .before .before .args in
+    states-refused (a .width) (a .last) (a .state .now) (a .block .now) (a .out .now) (c .before .refusal .ensures) (c .if1 .taken)
 
-allowed : (c : tie.Else1) → let a = c .before .before .before .before .before .args in
-    stepsRefusal (a .width) (length (a .state .now)) (length (a .block .now)) (length (a .out .now) / 9) ≡ 0
-allowed c = sym (c .before .refusal .ensures) ∙ c .if1 .left
-
-states-small-requires : tie.Need-states-small-requires
-states-small-requires c κs =
-    let a = c .before .before .before .before .before .before .before .args in
-    room (a .width) (length (a .state .now)) (length (a .block .now)) (length (a .out .now)) small (family-small (a .width) (c .before .if2 .taken)) (allowed (c .before .before))
-
-same-length : tie.Need-same-length
-same-length c = search needs
+small-requires : tie.Need-small-requires
+small-requires c κs =
+    let way = c .before in
+    let e = way .before in
+    let a = start e .args in
+    states-sizes (a .width) (a .last) (a .state .now) (a .block .now) (a .out .now) (e .before .refusal .ensures) (e .if1 .left)
+    small (family-small (a .width) (way .if2 .taken))
 
 returns-2 : tie.Need-returns-2
-unfolding statesRefusal
 returns-2 c =
     let way = c .before .before .before .before in
-    let a = way .before .before .before .before .before .before .args in (
-      sym (allowed (way .before)),
-      c .before .before .states-small .ensures
-          ∙ states-accepted (a .width) (a .last) (a .state .now) (a .block .now) (a .out .now) small (family-small (a .width) (way .if2 .taken)) (allowed (way .before)),
-    )
+    let e = way .before in
+    let a = start e .args in
+    states-accepted (a .width) (a .last) (a .state .now) (a .block .now) (a .out .now) (e .before .refusal .ensures) (e .if1 .left)
+    small (family-small (a .width) (way .if2 .taken)) (c .before .before .small .ensures)
 
-states-large-requires : tie.Need-states-large-requires
-states-large-requires c κs =
-    let a = c .before .before .before .before .before .before .before .args in
-    room (a .width) (length (a .state .now)) (length (a .block .now)) (length (a .out .now)) large (family-large (a .width) (c .before .if2 .left)) (allowed (c .before .before))
-
-same-length-2 : tie.Need-same-length-2
-same-length-2 c = search needs
+large-requires : tie.Need-large-requires
+large-requires c κs =
+    let way = c .before in
+    let e = way .before in
+    let a = start e .args in
+    states-sizes (a .width) (a .last) (a .state .now) (a .block .now) (a .out .now) (e .before .refusal .ensures) (e .if1 .left)
+    large (family-large (a .width) (way .if2 .left))
 
 returns-3 : tie.Need-returns-3
-unfolding statesRefusal
 returns-3 c =
     let way = c .before .before .before .before in
-    let a = way .before .before .before .before .before .before .args in (
-      sym (allowed (way .before)),
-      c .before .before .states-large .ensures
-          ∙ states-accepted (a .width) (a .last) (a .state .now) (a .block .now) (a .out .now) large (family-large (a .width) (way .if2 .left)) (allowed (way .before)),
-    )
+    let e = way .before in
+    let a = start e .args in
+    states-accepted (a .width) (a .last) (a .state .now) (a .block .now) (a .out .now) (e .before .refusal .ensures) (e .if1 .left)
+    large (family-large (a .width) (way .if2 .left)) (c .before .before .large .ensures)
 
 pub trace-steps-spec : {M : Type 1} → statement M
 trace-steps-spec =
     tie.close
-    (tie.spec
-    refusal-requires
-    returns
-    states-small-requires
-    same-length
-    returns-2
-    states-large-requires
-    same-length-2
-    returns-3)
+    (tie.spec (λ c κs. search needs) returns small-requires (λ c. search needs) returns-2 large-requires
+    (λ c. search needs) returns-3)

@@ -1,3 +1,4 @@
+-- The quotient is found as the upper half of a product by 255, and the difference of the lower halves is the remainder, or 257 more.
 use mathlib.Core.Path.{_≡_, ap, _∙_}
 use Prim.Native.Nat.{_*_, _≤_}
 use native.Mathlib.Nat.{mul-assoc}
@@ -19,17 +20,8 @@ mul-q c = omega (arith, bounded c, scaled c)
 mul-p : tie.Need-mul-p
 mul-p c = omega (arith, bounded c)
 
-cast-p : tie.Need-cast-p
-cast-p c = search needs
-
 mul-m : tie.Need-mul-m
 mul-m c = omega (arith, bounded c, scaled c)
-
-cast-m : tie.Need-cast-m
-cast-m c = search needs
-
-wrapping-sub-u16-requires : tie.Need-wrapping-sub-u16-requires
-wrapping-sub-u16-requires c κs = search needs
 
 returns : tie.Need-returns
 returns c =
@@ -39,4 +31,4 @@ returns c =
 
 pub product-spec : {M : Type 1} → statement M
 product-spec =
-    tie.close (tie.spec mul-q mul-p cast-p mul-m cast-m wrapping-sub-u16-requires returns)
+    tie.close (tie.spec mul-q mul-p (λ c. search needs) mul-m (λ c. search needs) (λ c κs. search needs) returns)

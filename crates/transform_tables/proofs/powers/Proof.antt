@@ -1,3 +1,4 @@
+-- One test over the whole table: each entry is 41 times the one before it, and the first is 1.
 use mathlib.Core.Path.{refl}
 use Rattle.transform_tables.proofs.Constants.{powers-right}
 use Rattle.transform_tables.proofs.powers.Statement.{statement}

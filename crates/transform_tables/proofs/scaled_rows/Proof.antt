@@ -1,7 +1,9 @@
-use mathlib.Core.Path.{_≡_, sym, subst}
+-- Each entry from 257 on is made of one below 256, and those are still the ones of the start.
+use mathlib.Core.Path.{_≡_, ap}
 use Prim.Native.Nat.{_+_, _*_, _-_, _≤_}
 use native.Mathlib.Omega.{arith}
-use lib.ListN.{getD, set}
+use borrow.Author.Needs.{needs}
+use lib.ListN.{getD}
 use Rattle.laws.proofs.Stores.{Filled, filled-none, filled-more}
 use Rattle.transform_tables.proofs.scaled_rows.Statement.{statement}
 use Rattle.transform_tables.proofs.scaled_rows.Tie as tie
@@ -12,51 +14,18 @@ Inv-loop t₀ j₀ t j = (j ≤ 255) × Filled (λ j. 255 * getD t₀ (1 + j) 0)
 abbrev μ-loop : tie.MeasureT-loop
 μ-loop t₀ j₀ t j = 255 - j
 
--- The entries that are read are still those of the start.
-unchanged : (c : tie.In-loop Inv-loop μ-loop) → getD (c .before .loop .t) (1 + c .before .loop .j) 0 ≡ getD (c .before .before .args .t .now) (1 + c .before .loop .j) 0
+unchanged : (c : tie.In-loop Inv-loop μ-loop)
+    → let loop = c .before .loop in getD (loop .t) (1 + loop .j) 0 ≡ getD (c .before .before .args .t .now) (1 + loop .j) 0
 unchanged c = c .before .loop .inv .1 .others _ (λ k below e. omega arith)
 
-loop-holds : tie.Need-loop-holds Inv-loop μ-loop
-loop-holds c = (omega arith, filled-none _ _ _)
-
-add-t : tie.Need-add-t Inv-loop μ-loop
-add-t c = omega arith
-
-mul-t : tie.Need-mul-t Inv-loop μ-loop
-mul-t c = omega arith
-
-slice-read-t : tie.Need-slice-read-t Inv-loop μ-loop
-slice-read-t c = omega arith
-
 mul-t-2 : tie.Need-mul-t-2 Inv-loop μ-loop
-mul-t-2 c = omega (arith, unchanged (c .before), c .before .before .before .pre .1 (1 + c .before .before .loop .j) (omega arith) (omega arith))
-
-add-t-2 : tie.Need-add-t-2 Inv-loop μ-loop
-add-t-2 c = omega arith
-
-mul-t-3 : tie.Need-mul-t-3 Inv-loop μ-loop
-mul-t-3 c = omega arith
-
-slice-write-t : tie.Need-slice-write-t Inv-loop μ-loop
-slice-write-t c = omega arith
-
-add-j : tie.Need-add-j Inv-loop μ-loop
-add-j c = omega arith
-
-loop-less : tie.Need-loop-less Inv-loop μ-loop
-loop-less c = omega arith
+mul-t-2 c =
+    let at = c .before .before in
+    omega (arith, unchanged (c .before), at .before .pre .1 (1 + at .loop .j) (omega arith) (omega arith))
 
 loop-again : tie.Need-loop-again Inv-loop μ-loop
 loop-again c =
-    let a = c .before .before .before .args in
-    let loop = c .before .before .loop in (
-      omega arith,
-      subst (λ v. Filled (λ j. 255 * getD (a .t .now) (1 + j) 0) (λ j. 257 + j) (a .t .now) (set (loop .t) (257 + loop .j) (255 * v)) (loop .j + 1)) (sym (unchanged (c .before)))
-          (filled-more (λ j. 255 * getD (a .t .now) (1 + j) 0) (λ j. 257 + j) (a .t .now) (loop .t) (loop .j) (omega arith) (λ j below e. omega arith) (loop .inv .1)),
-    )
-
-same-length : tie.Need-same-length Inv-loop μ-loop
-same-length c = omega arith
+    (omega arith, filled-more (c .before .before .loop .inv .1) (omega arith) (λ j below e. omega arith) (ap (λ v. 255 * v) (unchanged (c .before))))
 
 returns : tie.Need-returns Inv-loop μ-loop
 returns c =
@@ -71,19 +40,5 @@ returns c =
 pub scaled-rows-spec : {M : Type 1} → statement M
 scaled-rows-spec =
     tie.close
-    (tie.spec
-    Inv-loop
-    μ-loop
-    loop-holds
-    add-t
-    mul-t
-    slice-read-t
-    mul-t-2
-    add-t-2
-    mul-t-3
-    slice-write-t
-    add-j
-    loop-less
-    loop-again
-    same-length
-    returns)
+    (tie.spec Inv-loop μ-loop (λ c. (omega arith, filled-none)) (λ c. search needs) (λ c. search needs) (λ c. search needs) mul-t-2
+    (λ c. search needs) (λ c. search needs) (λ c. search needs) (λ c. search needs) (λ c. search needs) loop-again (λ c. search needs) returns)

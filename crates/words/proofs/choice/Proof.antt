@@ -1,3 +1,4 @@
+-- The code is IF as it is defined.
 use mathlib.Core.Path.{refl}
 use Rattle.simd.specs.Steps.{IF}
 use Rattle.words.proofs.choice.Statement.{statement}

@@ -1,14 +1,9 @@
+-- The code tests i mod 8 as the definition does.
 use borrow.Author.Tests.{lt-ltb, le-ltb}
 use Rattle.simd.specs.Steps.{choose}
 use borrow.Author.Needs.{needs}
 use Rattle.words.proofs.chosen.Statement.{statement}
 use Rattle.words.proofs.chosen.Tie as tie
-
-choice-requires : tie.Need-choice-requires
-choice-requires c κs = search needs
-
-majority-requires : tie.Need-majority-requires
-majority-requires c κs = search needs
 
 returns : tie.Need-returns
 unfolding choose
@@ -19,4 +14,4 @@ unfolding choose
 returns-2 c = simp (le-ltb _ _ (c .before .if1 .left)) (c .majority .ensures)
 
 pub chosen-spec : {M : Type 1} → statement M
-chosen-spec = tie.close (tie.spec choice-requires majority-requires returns returns-2)
+chosen-spec = tie.close (tie.spec (λ c κs. search needs) (λ c κs. search needs) returns returns-2)

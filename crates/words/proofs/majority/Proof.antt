@@ -1,3 +1,4 @@
+-- The code is MAJ as it is defined.
 use mathlib.Core.Path.{refl}
 use Rattle.simd.specs.Steps.{MAJ}
 use Rattle.words.proofs.majority.Statement.{statement}

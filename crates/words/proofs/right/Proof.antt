@@ -1,3 +1,4 @@
+-- A shift by 1 and one by 31 - k are a shift by 32 - k, which k = 0 allows.
 use mathlib.Core.Path.{_≡_, ap, _∙_}
 use Prim.Native.Nat.{_+_, _-_, _/_, _%_, _^_}
 use native.Mathlib.Omega.{arith}
@@ -5,12 +6,6 @@ use borrow.Author.Needs.{needs}
 use lib.Pow.{shr-shr}
 use Rattle.words.proofs.right.Statement.{statement}
 use Rattle.words.proofs.right.Tie as tie
-
-sub-result : tie.Need-sub-result
-sub-result c = search needs
-
-shr-result : tie.Need-shr-result
-shr-result c = search needs
 
 returns : tie.Need-returns
 returns c =
@@ -20,4 +15,4 @@ returns c =
     shr-shr x 1 (31 - k) ∙ ap (λ n. x / 2 ^ n) all
 
 pub right-spec : {M : Type 1} → statement M
-right-spec = tie.close (tie.spec sub-result shr-result returns)
+right-spec = tie.close (tie.spec (λ c. search needs) (λ c. search needs) returns)

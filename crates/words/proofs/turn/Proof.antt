@@ -1,3 +1,4 @@
+-- The left and the right part joined by or are the rotation.
 use mathlib.Core.Path.{_≡_, sym, ap, _∙_}
 use Prim.Native.Nat.{ℕ, zero, suc, _*_, _-_, _/_, _%_, _^_, _<_}
 use native.Mathlib.Omega.{arith}
@@ -18,16 +19,10 @@ parts (suc k) x less fits =
     let rest : 32 - suc k ≡ (32 - suc k) % 32 = omega arith in
     ap (λ n. bitOr (x * 2 ^ suc k % 2 ^ 32) (x / 2 ^ n)) rest ∙ rotl-code (suc k) x less fits
 
-left-requires : tie.Need-left-requires
-left-requires c κs = search needs
-
-right-requires : tie.Need-right-requires
-right-requires c κs = search needs
-
 returns : tie.Need-returns
 returns c =
     let s = c .before .before in
     (λ t. bitOr (c .before .left .ensures t) (c .right .ensures t)) ∙ parts (s .args .r % 32) (s .args .x) (search needs) (s .fits .x .fits)
 
 pub turn-spec : {M : Type 1} → statement M
-turn-spec = tie.close (tie.spec left-requires right-requires returns)
+turn-spec = tie.close (tie.spec (λ c κs. search needs) (λ c κs. search needs) returns)

@@ -1,144 +1,35 @@
+-- The loop's invariant: the words passed are those of the columns.
+use mathlib.Core.List.{[]}
 use mathlib.Core.Path.{refl}
-use Rattle.simd.specs.Basic.{table}
-use Rattle.compression.specs.Flat.{flat}
+use Prim.Native.Nat.{ℕ, _-_, _/_, _%_, _≤_, zero-le}
+use native.Mathlib.Omega.{arith}
 use borrow.Author.Needs.{needs}
+use lib.ListN.{getD, length-replicate}
+use Rattle.laws.proofs.Fill.{Filled, filled-none, filled-more, filled-all}
+use Rattle.compression.specs.Flat.{flat}
 use Rattle.compression.proofs.small.flat.Statement.{statement}
 use Rattle.compression.proofs.small.flat.Tie as tie
 
-index-1-t7 : tie.Need-index-1-t7
-index-1-t7 c = search needs
+abbrev Inv-loop : tie.InvT-loop
+Inv-loop s words₀ k₀ words k = (k ≤ 16) × Filled 0 16 (λ i. getD (getD s (i / 4) []) (i % 4) 0) k words
 
-index-2-t7 : tie.Need-index-2-t7
-index-2-t7 c = search needs
+abbrev μ-loop : tie.MeasureT-loop
+μ-loop s words₀ k₀ words k = 16 - k
 
-index-1-t12 : tie.Need-index-1-t12
-index-1-t12 c = search needs
+loop-holds : tie.Need-loop-holds Inv-loop μ-loop
+loop-holds c = (zero-le, filled-none (length-replicate {A = ℕ} 16 0))
 
-index-2-t12 : tie.Need-index-2-t12
-index-2-t12 c = search needs
+loop-again : tie.Need-loop-again Inv-loop μ-loop
+loop-again c =
+    let at = c .before .before .loop in
+    (omega arith, filled-more (at .inv .1) (search needs) refl)
 
-index-1-t17 : tie.Need-index-1-t17
-index-1-t17 c = search needs
-
-index-2-t17 : tie.Need-index-2-t17
-index-2-t17 c = search needs
-
-index-1-t22 : tie.Need-index-1-t22
-index-1-t22 c = search needs
-
-index-2-t22 : tie.Need-index-2-t22
-index-2-t22 c = search needs
-
-index-1-t27 : tie.Need-index-1-t27
-index-1-t27 c = search needs
-
-index-2-t27 : tie.Need-index-2-t27
-index-2-t27 c = search needs
-
-index-1-t32 : tie.Need-index-1-t32
-index-1-t32 c = search needs
-
-index-2-t32 : tie.Need-index-2-t32
-index-2-t32 c = search needs
-
-index-1-t37 : tie.Need-index-1-t37
-index-1-t37 c = search needs
-
-index-2-t37 : tie.Need-index-2-t37
-index-2-t37 c = search needs
-
-index-1-t42 : tie.Need-index-1-t42
-index-1-t42 c = search needs
-
-index-2-t42 : tie.Need-index-2-t42
-index-2-t42 c = search needs
-
-index-1-t47 : tie.Need-index-1-t47
-index-1-t47 c = search needs
-
-index-2-t47 : tie.Need-index-2-t47
-index-2-t47 c = search needs
-
-index-1-t52 : tie.Need-index-1-t52
-index-1-t52 c = search needs
-
-index-2-t52 : tie.Need-index-2-t52
-index-2-t52 c = search needs
-
-index-1-t57 : tie.Need-index-1-t57
-index-1-t57 c = search needs
-
-index-2-t57 : tie.Need-index-2-t57
-index-2-t57 c = search needs
-
-index-1-t62 : tie.Need-index-1-t62
-index-1-t62 c = search needs
-
-index-2-t62 : tie.Need-index-2-t62
-index-2-t62 c = search needs
-
-index-1-t67 : tie.Need-index-1-t67
-index-1-t67 c = search needs
-
-index-2-t67 : tie.Need-index-2-t67
-index-2-t67 c = search needs
-
-index-1-t72 : tie.Need-index-1-t72
-index-1-t72 c = search needs
-
-index-2-t72 : tie.Need-index-2-t72
-index-2-t72 c = search needs
-
-index-1-t77 : tie.Need-index-1-t77
-index-1-t77 c = search needs
-
-index-2-t77 : tie.Need-index-2-t77
-index-2-t77 c = search needs
-
-index-1-t82 : tie.Need-index-1-t82
-index-1-t82 c = search needs
-
-index-2-t82 : tie.Need-index-2-t82
-index-2-t82 c = search needs
-
-returns : tie.Need-returns
-unfolding flat table
-returns c = refl
+returns : tie.Need-returns Inv-loop μ-loop
+unfolding flat
+returns c = filled-all (c .before .loop .inv .1) (c .loop-test .left)
 
 pub flat-spec : {M : Type 1} → statement M
 flat-spec =
     tie.close
-    (tie.spec
-    index-1-t7
-    index-2-t7
-    index-1-t12
-    index-2-t12
-    index-1-t17
-    index-2-t17
-    index-1-t22
-    index-2-t22
-    index-1-t27
-    index-2-t27
-    index-1-t32
-    index-2-t32
-    index-1-t37
-    index-2-t37
-    index-1-t42
-    index-2-t42
-    index-1-t47
-    index-2-t47
-    index-1-t52
-    index-2-t52
-    index-1-t57
-    index-2-t57
-    index-1-t62
-    index-2-t62
-    index-1-t67
-    index-2-t67
-    index-1-t72
-    index-2-t72
-    index-1-t77
-    index-2-t77
-    index-1-t82
-    index-2-t82
-    returns)
+    (tie.spec Inv-loop μ-loop loop-holds (λ c. search needs) (λ c. search needs) (λ c. search needs) (λ c. search needs) (λ c. search needs)
+    (λ c. search needs) (λ c. search needs) (λ c. search needs) loop-again returns)

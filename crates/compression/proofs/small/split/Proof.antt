@@ -1,79 +1,37 @@
-use Rattle.simd.specs.Basic.{small, table}
-use Rattle.compression.proofs.Laws.{split-columns}
+-- The loop's invariant: the columns passed are those of the state.
+use mathlib.Core.List.{List, []}
+use mathlib.Core.Path.{refl, _∙_}
+use Prim.Native.Nat.{ℕ, _+_, _*_, _-_, _≤_, zero-le}
+use native.Mathlib.Omega.{arith}
 use borrow.Author.Needs.{needs}
+use lib.ListN.{getD}
+use Rattle.simd.specs.Basic.{small, table}
+use Rattle.laws.proofs.Fill.{Filled, filled-none, filled-more, filled-all}
+use Rattle.compression.proofs.Laws.{split-columns}
 use Rattle.compression.proofs.small.split.Statement.{statement}
 use Rattle.compression.proofs.small.split.Tie as tie
 
-array-read-t9 : tie.Need-array-read-t9
-array-read-t9 c = search needs
+abbrev Inv-loop : tie.InvT-loop
+Inv-loop words s₀ k₀ s k = (k ≤ 4) × Filled [] 4 (λ i. table 4 (λ j. getD words (4 * i + j) 0)) k s
 
-array-read-t12 : tie.Need-array-read-t12
-array-read-t12 c = search needs
+abbrev μ-loop : tie.MeasureT-loop
+μ-loop words s₀ k₀ s k = 4 - k
 
-array-read-t15 : tie.Need-array-read-t15
-array-read-t15 c = search needs
+loop-holds : tie.Need-loop-holds Inv-loop μ-loop
+loop-holds c = (zero-le, filled-none refl)
 
-array-read-t18 : tie.Need-array-read-t18
-array-read-t18 c = search needs
+loop-again : tie.Need-loop-again Inv-loop μ-loop
+loop-again c =
+    let at = c .before .before .before .before .before .loop in
+    (omega arith, filled-more (at .inv .1) (omega arith) (c .before .column .ensures))
 
-array-read-t9-2 : tie.Need-array-read-t9-2
-array-read-t9-2 c = search needs
-
-array-read-t18-2 : tie.Need-array-read-t18-2
-array-read-t18-2 c = search needs
-
-array-read-t15-2 : tie.Need-array-read-t15-2
-array-read-t15-2 c = search needs
-
-array-read-t12-2 : tie.Need-array-read-t12-2
-array-read-t12-2 c = search needs
-
-array-read-t9-3 : tie.Need-array-read-t9-3
-array-read-t9-3 c = search needs
-
-array-read-t12-3 : tie.Need-array-read-t12-3
-array-read-t12-3 c = search needs
-
-array-read-t15-3 : tie.Need-array-read-t15-3
-array-read-t15-3 c = search needs
-
-array-read-t18-3 : tie.Need-array-read-t18-3
-array-read-t18-3 c = search needs
-
-array-read-t9-4 : tie.Need-array-read-t9-4
-array-read-t9-4 c = search needs
-
-array-read-t18-4 : tie.Need-array-read-t18-4
-array-read-t18-4 c = search needs
-
-array-read-t15-4 : tie.Need-array-read-t15-4
-array-read-t15-4 c = search needs
-
-array-read-t12-4 : tie.Need-array-read-t12-4
-array-read-t12-4 c = search needs
-
-returns : tie.Need-returns
-unfolding table
-returns c = split-columns small (c .args .t1) (c .good .0 .1 .0 .1)
+returns : tie.Need-returns Inv-loop μ-loop
+returns c =
+    let start = c .before .before in
+    filled-all (c .before .loop .inv .1) (c .loop-test .left) ∙ split-columns small (start .args .t1) (start .good .0 .1 .0 .1)
 
 pub split-spec : {M : Type 1} → statement M
 split-spec =
     tie.close
-    (tie.spec
-    array-read-t9
-    array-read-t12
-    array-read-t15
-    array-read-t18
-    array-read-t9-2
-    array-read-t18-2
-    array-read-t15-2
-    array-read-t12-2
-    array-read-t9-3
-    array-read-t12-3
-    array-read-t15-3
-    array-read-t18-3
-    array-read-t9-4
-    array-read-t18-4
-    array-read-t15-4
-    array-read-t12-4
-    returns)
+    (tie.spec Inv-loop μ-loop loop-holds (λ c. search needs) (λ c. search needs) (λ c. search needs) (λ c κs. search needs) (λ c. search needs)
+    (λ c. search needs) (λ c. search needs) (λ c. search needs) loop-again returns)

@@ -1,106 +1,61 @@
-use mathlib.Core.Path.{sym, _∙_}
-use Prim.Native.Nat.{_+_, _-_}
+-- Refused, the zero hash; else the parts of the form, each in its place.
+use mathlib.Core.Path.{_≡_, sym, _∙_}
 use native.Mathlib.Omega.{arith}
-use lib.ListN.{length, drop, length-take}
-use Rattle.form.specs.Numbers.{formBits}
-use Rattle.hash.specs.Form.{formFamily}
-use Rattle.tail.proofs.Sizes.{bytes-within}
-use Rattle.hash.proofs.Storing.{form-facts}
-use Rattle.hash.proofs.Answers.{restore-refused, restore-answered, block-size}
 use borrow.Author.Needs.{needs}
+use Rattle.simd.specs.Basic.{blockBytes}
+use Rattle.tail.proofs.Sizes.{bytes-within}
+use Rattle.hash_parts.proofs.Accepted.{Accepted, form-facts}
+use Rattle.hash.specs.Form.{formFamily}
+use Rattle.hash.proofs.Answers.{restore-refused, restore-answered, block-size}
 use Rattle.hash.proofs.Hash.restore.Statement.{statement}
 use Rattle.hash.proofs.Hash.restore.Tie as tie
 
-restore-refusal-requires : tie.Need-restore-refusal-requires
-restore-refusal-requires c κs = search needs
+-- The place where the form is accepted, and the start from there.
+abbrev start : tie.Else1 → tie.Start
+start c = c .before .before .before
 
-zero-hash-requires : tie.Need-zero-hash-requires
-zero-hash-requires c κs = search needs
+facts : (c : tie.Else1) → Accepted (start c .args .form .now)
+facts c = form-facts (start c .args .form .now) (sym (c .before .restore-refusal .ensures) ∙ c .if1 .left)
+
+sized : (c : tie.After-block-bytes) → c .block-bytes .result ≡ blockBytes (formFamily (start (c .before .before .before) .args .form .now))
+sized c =
+    let width = c .before .before .read-width in
+    block-size (start (c .before .before .before) .args .form .now) (width .result) (c .block-bytes .result) (width .ensures) (c .block-bytes .ensures)
 
 returns : tie.Need-returns
 returns c =
-    restore-refused (c .before .before .before .before .args .form .now) (c .zero-hash .result) (c .before .before .restore-refusal .result) (c .zero-hash .ensures) (c .before .before .restore-refusal .ensures) (c .before .if1 .taken)
-
-read-width-requires : tie.Need-read-width-requires
-read-width-requires c κs =
-    let s = c .before .before .before in
-    let form = s .args .form .now in
-    let facts = form-facts form (sym (c .before .restore-refusal .ensures) ∙ c .if1 .left) in
-    omega (arith, facts .size)
-
-read-word-requires : tie.Need-read-word-requires
-read-word-requires c κs =
-    let s = c .before .before .before .before in
-    let form = s .args .form .now in
-    let facts = form-facts form (sym (c .before .before .restore-refusal .ensures) ∙ c .before .if1 .left) in
-    omega (arith, facts .size)
-
-block-bytes-requires : tie.Need-block-bytes-requires
-block-bytes-requires c κs = search needs
+    let refusal = c .before .before .restore-refusal in
+    restore-refused (c .before .before .before .before .args .form .now) (c .zero-hash .result) (refusal .result) (c .zero-hash .ensures)
+    (refusal .ensures) (c .before .if1 .taken)
 
 read-state-requires : tie.Need-read-state-requires
 read-state-requires c κs =
-    let s = c .before .before .before .before .before .before in
-    let form = s .args .form .now in
-    let facts = form-facts form (sym (c .before .before .before .before .restore-refusal .ensures) ∙ c .before .before .before .if1 .left) in
-    let size = block-size form (c .before .before .read-width .result) (c .block-bytes .result) (c .before .before .read-width .ensures) (c .block-bytes .ensures) in
-    (omega (arith, size, bytes-within (formFamily form)), omega (arith, facts .size, size))
+    let e = c .before .before .before in
+    (omega (arith, sized c, bytes-within (formFamily (start e .args .form .now))), omega (arith, facts e .size, sized c))
 
-add-middle : tie.Need-add-middle
-add-middle c = search needs
-
-sub-read-tail : tie.Need-sub-read-tail
-sub-read-tail c =
-    let s = c .before .before .before .before .before .before .before in
-    let form = s .args .form .now in
-    let facts = form-facts form (sym (c .before .before .before .before .before .restore-refusal .ensures) ∙ c .before .before .before .before .if1 .left) in
-    let size = block-size form (c .before .before .before .read-width .result) (c .before .block-bytes .result) (c .before .before .before .read-width .ensures) (c .before .block-bytes .ensures) in
-    omega (arith, facts .size, size)
-
-part-read-tail-start : tie.Need-part-read-tail-start
-part-read-tail-start c =
-    let s = c .before .before .before .before .before .before .before in
-    let form = s .args .form .now in
-    let facts = form-facts form (sym (c .before .before .before .before .before .restore-refusal .ensures) ∙ c .before .before .before .before .if1 .left) in
-    let size = block-size form (c .before .before .before .read-width .result) (c .before .block-bytes .result) (c .before .before .before .read-width .ensures) (c .before .block-bytes .ensures) in
-    omega (arith, facts .size, size)
-
-part-read-tail-end : tie.Need-part-read-tail-end
-part-read-tail-end c = search needs
+add-read-tail : tie.Need-add-read-tail
+add-read-tail c = omega (arith, sized (c .before), bytes-within (formFamily (start (c .before .before .before .before) .args .form .now)))
 
 read-tail-requires : tie.Need-read-tail-requires
 read-tail-requires c κs =
-    let s = c .before .before .before .before .before .before .before .before in
-    let form = s .args .form .now in
-    let facts = form-facts form (sym (c .before .before .before .before .before .before .restore-refusal .ensures) ∙ c .before .before .before .before .before .if1 .left) in
-    let size = block-size form (c .before .before .before .before .read-width .result) (c .before .before .block-bytes .result) (c .before .before .before .before .read-width .ensures) (c .before .before .block-bytes .ensures) in
-    omega (arith, facts .size, size, bytes-within (formFamily form), length-take (length form - (6 + c .before .before .block-bytes .result)) (drop (6 + c .before .before .block-bytes .result) form))
+    let e = c .before .before .before .before in
+    let within = bytes-within (formFamily (start e .args .form .now)) in
+    (omega (arith, facts e .size, sized (c .before)), omega (arith, facts e .size, sized (c .before), within))
 
 returns-2 : tie.Need-returns-2
-unfolding formBits
 returns-2 c =
-    let form = c .before .before .before .before .before .before .before .before .before .args .form .now in
-    let refusal = c .before .before .before .before .before .before .before .restore-refusal in
-    let width = c .before .before .before .before .before .read-width in
-    let bits = c .before .before .before .before .read-word in
-    let size = c .before .before .before .block-bytes in
-    restore-answered form (refusal .result) (refusal .ensures) (c .before .before .before .before .before .before .if1 .left) (width .result) (bits .result) (size .result) (c .before .before .read-state .result) (c .read-tail .result)
-    (width .ensures) (bits .ensures) (size .ensures) (c .before .before .read-state .ensures) (c .read-tail .ensures)
+    let state = c .before in
+    let size = state .before in
+    let bits = size .before in
+    let width = bits .before in
+    let e = width .before in
+    let refusal = e .before .restore-refusal in
+    restore-answered (start e .args .form .now) (refusal .result) (refusal .ensures) (e .if1 .left) (width .read-width .result) (bits .read-bits .result)
+    (size .block-bytes .result) (state .read-state .result) (c .read-tail .result) (width .read-width .ensures) (bits .read-bits .ensures)
+    (size .block-bytes .ensures) (state .read-state .ensures) (c .read-tail .ensures)
 
 pub restore-spec : {M : Type 1} → statement M
 restore-spec =
     tie.close
-    (tie.spec
-    restore-refusal-requires
-    zero-hash-requires
-    returns
-    read-width-requires
-    read-word-requires
-    block-bytes-requires
-    read-state-requires
-    add-middle
-    sub-read-tail
-    part-read-tail-start
-    part-read-tail-end
-    read-tail-requires
-    returns-2)
+    (tie.spec (λ c κs. search needs) (λ c κs. search needs) returns (λ c κs. omega (arith, facts c .size))
+    (λ c κs. omega (arith, facts (c .before) .size)) (λ c κs. search needs) read-state-requires add-read-tail read-tail-requires returns-2)

@@ -1,83 +1,75 @@
-use mathlib.Core.Path.{_∙_}
-use Prim.Native.Nat.{_+_, _*_, _-_}
+-- Refused, nothing is written; else the form of the hash's parts.
+use mathlib.Core.Bool.{true}
+use mathlib.Core.Path.{_≡_, _∙_}
+use Prim.Native.Nat.{_-_, _≤_}
 use native.Mathlib.Omega.{arith}
-use lib.ListN.{length-take}
-use Rattle.simd.specs.Basic.{familyOf}
-use Rattle.tail.proofs.Sizes.{bytes-within}
-use Rattle.hash.proofs.Answers.{store-refused, store-facts, store-answered}
 use borrow.Author.Needs.{needs}
+use lib.ListN.{length, length-take}
+use Rattle.tail.proofs.Sizes.{bytes-within}
+use Rattle.hash.specs.Open.{family, legal}
+use Rattle.hash.specs.Form.{formBytes, storeRefusal}
+use Rattle.hash.proofs.Answers.{store-refusal, store-refused, store-facts, store-answered}
 use Rattle.hash.proofs.Hash.store.Statement.{statement}
 use Rattle.hash.proofs.Hash.store.Tie as tie
 
-store-refusal-requires : tie.Need-store-refusal-requires
-store-refusal-requires c κs = search needs
+-- The places before the check: where the length of the form is known, and the start.
+abbrev measured : tie.After-output-refusal → tie.After-form-bytes
+measured c = c .before .before .before
 
-same-length : tie.Need-same-length
-same-length c = search needs
+abbrev start : tie.After-output-refusal → tie.Start
+start c = measured c .before .before .before .before .before
+
+-- The lengths of the arrays of a hash.
+lengths : (s : tie.Start) → (length (s .args .self .state) ≡ 32) × (length (s .args .self .tail) ≡ 128)
+lengths s = (search needs, search needs)
+
+refused : (c : tie.After-output-refusal) → c .output-refusal .result ≡ storeRefusal (start c .args .self) (start c .args .out .now)
+refused c =
+    let d = measured c .form-bytes in
+    store-refusal (start c .args .self) (start c .args .out .now) (d .result) (c .output-refusal .result) (d .ensures) (c .output-refusal .ensures)
+
+accepted : (c : tie.Else1) → let a = start (c .before) .args in (legal (a .self) ≡ true) × (formBytes (family (a .self)) ≤ length (a .out .now))
+accepted c =
+    let a = start (c .before) .args in
+    store-facts (a .self) (a .out .now) (c .before .output-refusal .result) (refused (c .before)) (c .if1 .left)
 
 returns : tie.Need-returns
 returns c =
-    let a = c .before .before .before .before .args in
-    store-refused (a .self) (a .out .now) (c .before .store-refusal .result) (c .before .store-refusal .ensures) (c .if1 .taken)
-
-block-bytes-requires : tie.Need-block-bytes-requires
-block-bytes-requires c κs = search needs
-
-mul-length : tie.Need-mul-length
-mul-length c = omega (arith, c .block-bytes .ensures, bytes-within (familyOf (c .before .before .before .before .before .before .before .args .self .width)))
-
-add-length : tie.Need-add-length
-add-length c = omega (arith, c .block-bytes .ensures, bytes-within (familyOf (c .before .before .before .before .before .before .before .args .self .width)))
-
-slice-aggregate-write-form : tie.Need-slice-aggregate-write-form
-slice-aggregate-write-form c = search needs
-
-sub-write-form : tie.Need-sub-write-form
-sub-write-form c = search needs
-
-part-write-form-start : tie.Need-part-write-form-start
-part-write-form-start c = search needs
+    let a = start (c .before) .args in
+    store-refused (a .self) (a .out .now) (c .before .output-refusal .result) (refused (c .before)) (c .if1 .taken)
 
 part-write-form-end : tie.Need-part-write-form-end
 part-write-form-end c =
-    let s = c .before .before .before .before .before .before .before .before in
-    let facts = store-facts (s .args .self) (s .args .out .now) (c .before .before .before .before .before .store-refusal .result) (c .before .before .before .before .before .store-refusal .ensures) (c .before .before .before .before .if1 .left) in
-    omega (arith, facts .1, c .before .block-bytes .ensures)
+    let e = c .before .before in
+    omega (arith, accepted e .1, measured (e .before) .form-bytes .ensures)
 
 write-form-requires : tie.Need-write-form-requires
 write-form-requires c κs =
-    let s = c .before .before .before .before .before .before .before .before .before in
-    let facts = store-facts (s .args .self) (s .args .out .now) (c .before .before .before .before .before .before .store-refusal .result) (c .before .before .before .before .before .before .store-refusal .ensures) (c .before .before .before .before .before .if1 .left) in
-    let size = c .before .before .block-bytes in
-    (omega (arith, length-take (6 + 2 * size .result - 0) (s .args .out .now), facts .1, size .ensures), omega (arith, size .ensures, bytes-within (familyOf (s .args .self .width))), search needs, omega (arith, size .ensures))
-
-same-length-2 : tie.Need-same-length-2
-same-length-2 c = search needs
+    let e = c .before .before .before in
+    let a = start (e .before) .args in
+    let d = measured (e .before) .form-bytes in
+    let size = c .before .before .block-bytes .ensures in (
+      omega (arith, length-take (d .result - 0) (a .out .now), accepted e .1, d .ensures, size),
+      omega (arith, size, bytes-within (family (a .self))),
+      lengths (start (e .before)) .1,
+      omega (arith, size),
+    )
 
 returns-2 : tie.Need-returns-2
 returns-2 c =
-    let s = c .before .before .before .before .before .before .before .before .before .before .before .before in
-    let facts = store-facts (s .args .self) (s .args .out .now) (c .before .before .before .before .before .before .before .before .before .store-refusal .result) (c .before .before .before .before .before .before .before .before .before .store-refusal .ensures) (c .before .before .before .before .before .before .before .before .if1 .left) in
-    let refusal = c .before .before .before .before .before .before .before .before .before .store-refusal in
-    let size = c .before .before .before .before .before .block-bytes in
+    let size = c .before .before .before .before .before in
+    let e = size .before in
+    let a = start (e .before) .args in
+    let d = measured (e .before) .form-bytes in
     let call = c .before .before .write-form in
-    store-answered (s .args .self) (s .args .out .now) (refusal .result) (refusal .ensures) (c .before .before .before .before .before .before .before .before .if1 .left) (search needs) (search needs) (size .result) (size .ensures)
-    (call .last .1 .1 .1 .1 .1 .0) (call .ensures) (call .kept .1 .1 .1 .1 .1 .0 ∙ omega (arith, length-take (6 + 2 * size .result - 0) (s .args .out .now), facts .1, size .ensures))
+    let sizes = lengths (start (e .before)) in
+    store-answered (a .self) (a .out .now) (e .before .output-refusal .result) (refused (e .before)) (e .if1 .left) (sizes .0) (sizes .1)
+    (size .block-bytes .result) (d .result) (size .block-bytes .ensures) (d .ensures) (call .last .1 .1 .1 .1 .1 .0) (call .ensures)
+    (call .kept .1 .1 .1 .1 .1 .0 ∙ omega (arith, length-take (d .result - 0) (a .out .now), accepted e .1, d .ensures))
 
 pub store-spec : {M : Type 1} → statement M
 store-spec =
     tie.close
-    (tie.spec
-    store-refusal-requires
-    same-length
-    returns
-    block-bytes-requires
-    mul-length
-    add-length
-    slice-aggregate-write-form
-    sub-write-form
-    part-write-form-start
-    part-write-form-end
-    write-form-requires
-    same-length-2
-    returns-2)
+    (tie.spec (λ c. search needs) (λ c κs. search needs) (λ c. search needs) (λ c. search needs) (λ c κs. search needs)
+    returns (λ c κs. search needs) (λ c. search needs) (λ c. search needs) (λ c. search needs) part-write-form-end
+    write-form-requires (λ c. search needs) returns-2)

@@ -1,81 +1,79 @@
-use Prim.Native.Nat.{_-_, _/_}
+-- Refused, nothing is written; else the first bytes of the state that `close` leaves, which are the digest.
+use mathlib.Core.Bool.{true}
+use mathlib.Core.Path.{_≡_}
+use Prim.Native.Nat.{_-_, _≤_}
 use native.Mathlib.Omega.{arith}
-use lib.ListN.{length-take}
-use Rattle.hash.specs.Open.{family}
+use borrow.Author.Needs.{needs}
+use lib.ListN.{length, length-take}
+use Rattle.simd.specs.Basic.{digestBytes}
 use Rattle.tail.proofs.Sizes.{words-within}
+use Rattle.hash.specs.Open.{family, legal, takeRefusal}
 use Rattle.hash.proofs.Holding.{legal-width, legal-tail}
 use Rattle.hash.proofs.Digests.{digest-room, digest-words}
-use Rattle.hash.proofs.Answers.{take-refused, take-facts, take-answered}
-use borrow.Author.Needs.{needs}
+use Rattle.hash.proofs.Answers.{take-refusal, take-refused, take-facts, take-answered}
 use Rattle.hash.proofs.Hash.take.Statement.{statement}
 use Rattle.hash.proofs.Hash.take.Tie as tie
 
-take-refusal-requires : tie.Need-take-refusal-requires
-take-refusal-requires c κs = search needs
+-- The places before the check: where the length of the digest is known, and the start.
+abbrev measured : tie.After-output-refusal → tie.After-digest-bytes
+measured c = c .before .before .before
 
-same-length : tie.Need-same-length
-same-length c = search needs
+abbrev start : tie.After-output-refusal → tie.Start
+start c = measured c .before .before .before .before .before
+
+-- The lengths of the arrays of a hash.
+lengths : (s : tie.Start) → (length (s .args .self .state) ≡ 32) × (length (s .args .self .tail) ≡ 128)
+lengths s = (search needs, search needs)
+
+refused : (c : tie.After-output-refusal) → c .output-refusal .result ≡ takeRefusal (start c .args .self) (start c .args .out .now)
+refused c =
+    let d = measured c .digest-bytes in
+    take-refusal (start c .args .self) (start c .args .out .now) (d .result) (c .output-refusal .result) (d .ensures) (c .output-refusal .ensures)
+
+accepted : (c : tie.Else1) → let a = start (c .before) .args in (legal (a .self) ≡ true) × (digestBytes (a .self .width) ≤ length (a .out .now))
+accepted c =
+    let a = start (c .before) .args in
+    take-facts (a .self) (a .out .now) (c .before .output-refusal .result) (refused (c .before)) (c .if1 .left)
 
 returns : tie.Need-returns
 returns c =
-    let a = c .before .before .before .before .args in
-    take-refused (a .self) (a .out .now) (c .before .take-refusal .result) (c .before .take-refusal .ensures) (c .if1 .taken)
-
-slice-aggregate-close : tie.Need-slice-aggregate-close
-slice-aggregate-close c = search needs
+    let a = start (c .before) .args in
+    take-refused (a .self) (a .out .now) (c .before .output-refusal .result) (refused (c .before)) (c .if1 .taken)
 
 close-requires : tie.Need-close-requires
 close-requires c κs =
-    let s = c .before .before .before .before .before .before .before .before in
-    let facts = take-facts (s .args .self) (s .args .out .now) (c .before .before .before .before .before .take-refusal .result) (c .before .before .before .before .before .take-refusal .ensures) (c .before .before .before .before .if1 .left) in
-    (search needs, search needs, legal-tail (s .args .self) (facts .0))
-
-cast-length : tie.Need-cast-length
-cast-length c = search needs
-
-sub-write-words : tie.Need-sub-write-words
-sub-write-words c = search needs
-
-part-write-words-start : tie.Need-part-write-words-start
-part-write-words-start c = search needs
+    let e = c .before .before in
+    let s = start (e .before) in
+    (lengths s .0, lengths s .1, legal-tail (s .args .self) (accepted e .0))
 
 part-write-words-end : tie.Need-part-write-words-end
 part-write-words-end c =
-    let s = c .before .before .before .before .before .before .before .before .before in
-    let facts = take-facts (s .args .self) (s .args .out .now) (c .before .before .before .before .before .before .take-refusal .result) (c .before .before .before .before .before .before .take-refusal .ensures) (c .before .before .before .before .before .if1 .left) in
-    omega (arith, facts .1)
+    let e = c .before .before .before in
+    omega (arith, accepted e .1, measured (e .before) .digest-bytes .ensures)
 
 write-words-requires : tie.Need-write-words-requires
 write-words-requires c κs =
-    let s = c .before .before .before .before .before .before .before .before .before .before in
-    let facts = take-facts (s .args .self) (s .args .out .now) (c .before .before .before .before .before .before .before .take-refusal .result) (c .before .before .before .before .before .before .before .take-refusal .ensures) (c .before .before .before .before .before .before .if1 .left) in
-    let known = legal-width (s .args .self) (facts .0) in
-    omega (arith, facts .1, length-take (s .args .self .width / 8 - 0) (s .args .out .now), digest-room (s .args .self .width) known, digest-words (s .args .self .width) known, words-within (family (s .args .self)))
-
-same-length-2 : tie.Need-same-length-2
-same-length-2 c = search needs
+    let e = c .before .before .before .before in
+    let a = start (e .before) .args in
+    let d = measured (e .before) .digest-bytes in
+    let known = legal-width (a .self) (accepted e .0) in
+    let width = a .self .width in
+    let room = digest-room width known in
+    omega (arith, accepted e .1, length-take (d .result - 0) (a .out .now), d .ensures, room, digest-words width known, words-within (family (a .self)))
 
 returns-2 : tie.Need-returns-2
 returns-2 c =
-    let s = c .before .before .before .before .before .before .before .before .before .before .before .before .before in
-    let refusal = c .before .before .before .before .before .before .before .before .before .before .take-refusal in
-    let call = c .before .before .before .before .close in
-    take-answered (s .args .self) (s .args .out .now) (refusal .result) (refusal .ensures) (c .before .before .before .before .before .before .before .before .before .if1 .left) (call .last .1 .1 .0) (c .before .before .write-words .last .0) (call .result)
-    (call .ensures .0) (call .ensures .1) (c .before .before .write-words .ensures)
+    let w = c .before .before .write-words in
+    let l = c .before .before .before .before in
+    let e = l .before .before .before in
+    let a = start (e .before) .args in
+    let d = measured (e .before) .digest-bytes in
+    take-answered (a .self) (a .out .now) (e .before .output-refusal .result) (refused (e .before)) (e .if1 .left) (d .result) (d .ensures)
+    (l .close .last .1 .1 .0) (w .last .0) (l .close .result) (l .close .ensures .0) (l .close .ensures .1) (w .ensures)
 
 pub take-spec : {M : Type 1} → statement M
 take-spec =
     tie.close
-    (tie.spec
-    take-refusal-requires
-    same-length
-    returns
-    slice-aggregate-close
-    close-requires
-    cast-length
-    sub-write-words
-    part-write-words-start
-    part-write-words-end
-    write-words-requires
-    same-length-2
-    returns-2)
+    (tie.spec (λ c. search needs) (λ c κs. search needs) (λ c. search needs) (λ c. search needs) (λ c κs. search needs)
+    returns (λ c. search needs) close-requires (λ c. search needs) (λ c. search needs) part-write-words-end write-words-requires
+    (λ c. search needs) returns-2)

@@ -1,68 +1,28 @@
-use lib.Dec.{lit<}
+-- A is undone first, and D from it; C and D were B and C.
+use mathlib.Core.List.{[], _∷_}
+use mathlib.Core.Path.{_∙_}
 use Rattle.simd.specs.Basic.{small}
 use Rattle.words.specs.Columns.{fromColumns}
-use Rattle.unsteps.specs.Unstep.{oldD}
-use Rattle.words.proofs.Columns.{four-words}
+use Rattle.words.proofs.Rotations.{next-rotation}
 use Rattle.unsteps.proofs.Columns.{unstep-columns}
 use borrow.Author.Needs.{needs}
 use Rattle.unsteps.proofs.small.unstep.Statement.{statement}
 use Rattle.unsteps.proofs.small.unstep.Tie as tie
 
-add-rotation : tie.Need-add-rotation
-add-rotation c = search needs
-
-rotation-requires : tie.Need-rotation-requires
-rotation-requires c κs = search needs
-
-exchange-requires : tie.Need-exchange-requires
-exchange-requires c κs = search needs
-
-old-a-requires : tie.Need-old-a-requires
-old-a-requires c κs = search needs
-
-array-copy-out-b : tie.Need-array-copy-out-b
-array-copy-out-b c = search needs
-
-array-copy-out-c : tie.Need-array-copy-out-c
-array-copy-out-c c = search needs
-
-row-requires : tie.Need-row-requires
-row-requires c κs = search needs
-
-row-requires-2 : tie.Need-row-requires-2
-row-requires-2 c κs = search needs
-
-row-requires-3 : tie.Need-row-requires-3
-row-requires-3 c κs = search needs
-
-row-requires-4 : tie.Need-row-requires-4
-row-requires-4 c κs = (c .before .before .before .before .before .before .before .before .before .before .before .before .before .before .before .before .before .before .before .before .rotation .ensures .1, lit< tt)
-
 returns : tie.Need-returns
 returns c =
-    let s = c .before .before .before .before .before .before .before .before .before .before .before .before .before .before .before .before .before .before .before .before .before .before in
-    let a = c .before .before .before .before .before .before .before .before .before .before .before .before .before .before .before .before .before .before .old-a .result in
-    let d =
-    four-words (oldD small (s .args .i) (c .before .before .before .before .before .before .before .before .before .before .before .before .before .before .before .before .before .before .before .before .before .rotation .result) (c .before .before .before .before .before .before .before .before .before .before .before .before .before .before .before .before .before .before .before .before .exchange .result) a (s .args .t2) (fromColumns (s .args .t1)))
-    (c .before .before .before .before .before .before .before .before .before .before .before .before .row .ensures)
-    (c .before .before .before .before .before .before .before .before .row2 .ensures)
-    (c .before .before .before .before .row3 .ensures)
-    (c .row4 .ensures)
-    in
-    unstep-columns small (s .args .i) (s .args .t2) (fromColumns (s .args .t1)) (c .before .before .before .before .before .before .before .before .before .before .before .before .before .before .before .before .before .before .old-a .ensures) (c .before .before .before .before .before .before .before .before .before .before .before .before .before .before .before .before .before .before .before .before .before .rotation .ensures .0) (c .before .before .before .before .before .before .before .before .before .before .before .before .before .before .before .before .before .before .before .before .exchange .ensures) d
+    let read = c .before .before .before .before in
+    let lent = read .before .before .before .before .before .before in
+    let undone = lent .before .before in
+    let first = undone .before .before in
+    let p = first .before .before .args in
+    let s-is = read .rotation2 .ensures .0 ∙ next-rotation (p .i) in
+    unstep-columns small (p .i) (p .t5) (fromColumns (p .t1 ∷ p .t2 ∷ p .t3 ∷ p .t4 ∷ [])) (first .rotation .ensures .0) s-is
+    (c .before .before .before .small-exchange .ensures) (undone .unrotate-rows .ensures) (c .before .unmix-rows .ensures)
 
 pub unstep-spec : {M : Type 1} → statement M
 unstep-spec =
     tie.close
-    (tie.spec
-    add-rotation
-    rotation-requires
-    exchange-requires
-    old-a-requires
-    array-copy-out-b
-    array-copy-out-c
-    row-requires
-    row-requires-2
-    row-requires-3
-    row-requires-4
-    returns)
+    (tie.spec (λ c. search needs) (λ c κs. search needs) (λ c. search needs) (λ c κs. search needs) (λ c. search needs) (λ c. search needs)
+    (λ c. search needs) (λ c. search needs) (λ c. search needs) (λ c. search needs) (λ c. search needs) (λ c κs. search needs) (λ c κs. search needs)
+    (λ c. search needs) (λ c κs. search needs) returns)

@@ -1,74 +1,44 @@
-use borrow.Author.Needs.{needs}
+-- Step by step, from the last: what is left to undo leads to the same start.
 use mathlib.Core.Path.{_≡_, refl}
 use Prim.Native.Nat.{_≤_}
-use native.Mathlib.Omega.{arith}
 use lib.Dec.{lit≤}
 use Rattle.simd.specs.Basic.{small}
 use Rattle.words.specs.Columns.{fromColumns}
 use Rattle.unsteps.specs.Unstep.{unsteps}
 use Rattle.unsteps.proofs.Columns.{unsteps-more, unsteps-all}
+use borrow.Author.Needs.{needs}
 use Rattle.unsteps.proofs.small.unsteps.Statement.{statement}
 use Rattle.unsteps.proofs.small.unsteps.Tie as tie
 
 abbrev Inv-loop : tie.InvT-loop
-Inv-loop w q e s₀ i₀ s i =
-    (i ≤ 32) × (unsteps small w i (fromColumns s) ≡ unsteps small w 32 (fromColumns s₀))
+Inv-loop w s₀ i₀ s i = (i ≤ 32) × (unsteps small w i (fromColumns s) ≡ unsteps small w 32 (fromColumns s₀))
 
 abbrev μ-loop : tie.MeasureT-loop
-μ-loop w q e s₀ i₀ s i = i
-
-rotations-requires : tie.Need-rotations-requires Inv-loop μ-loop
-rotations-requires c κs = search needs
-
-small-exchanges-requires : tie.Need-small-exchanges-requires Inv-loop μ-loop
-small-exchanges-requires c κs = search needs
+μ-loop w s₀ i₀ s i = i
 
 loop-holds : tie.Need-loop-holds Inv-loop μ-loop
 loop-holds c = (lit≤ tt, refl)
 
-sub-i : tie.Need-sub-i Inv-loop μ-loop
-sub-i c = search needs
-
-mul-unstep : tie.Need-mul-unstep Inv-loop μ-loop
-mul-unstep c = search needs
-
-element-copy-out-unstep : tie.Need-element-copy-out-unstep Inv-loop μ-loop
-element-copy-out-unstep c = search needs
-
-unstep-requires : tie.Need-unstep-requires Inv-loop μ-loop
-unstep-requires c κs = ((c .before .before .before .before .before .before .rotations .ensures, c .before .before .before .before .before .small-exchanges .ensures), omega arith)
-
-loop-less : tie.Need-loop-less Inv-loop μ-loop
-loop-less c = search needs
-
 loop-again : tie.Need-loop-again Inv-loop μ-loop
 loop-again c =
-    let s = c .before .before .before .before .before .before .before .before in
-    let at = c .before .before .before .before .before .loop in (
-      omega arith,
-      unsteps-more small (s .args .w .now) (at .i) (fromColumns (at .s)) (fromColumns (c .unstep .result)) (unsteps small (s .args .w .now) 32 (fromColumns (s .args .st)))
-          (c .before .before .before .before .loop-test .taken) (c .unstep .ensures) (at .inv .1),
+    let turn = c .before .before .before .before .before .before in
+    let at = turn .before in
+    let p = at .before .args in
+    let all = unsteps small (p .w .now) 32 (fromColumns (p .st)) in (
+      search needs,
+      unsteps-more small (p .w .now) (at .loop .i) (fromColumns (at .loop .s)) (fromColumns (c .unstep .result)) all
+          (turn .loop-test .taken) (c .unstep .ensures) (at .loop .inv .1),
     )
 
 returns : tie.Need-returns Inv-loop μ-loop
 returns c =
-    let s = c .before .before .before .before in
-    let at = c .before .loop in
-    unsteps-all small (s .args .w .now) (at .i) (fromColumns (at .s)) (unsteps small (s .args .w .now) 32 (fromColumns (s .args .st))) (c .loop-test .left) (at .inv .1)
+    let at = c .before in
+    let p = at .before .args in
+    unsteps-all small (p .w .now) (at .loop .i) (fromColumns (at .loop .s)) (unsteps small (p .w .now) 32 (fromColumns (p .st)))
+    (c .loop-test .left) (at .loop .inv .1)
 
 pub unsteps-spec : {M : Type 1} → statement M
 unsteps-spec =
     tie.close
-    (tie.spec
-    Inv-loop
-    μ-loop
-    rotations-requires
-    small-exchanges-requires
-    loop-holds
-    sub-i
-    mul-unstep
-    element-copy-out-unstep
-    unstep-requires
-    loop-less
-    loop-again
-    returns)
+    (tie.spec Inv-loop μ-loop loop-holds (λ c. search needs) (λ c. search needs) (λ c. search needs) (λ c. search needs) (λ c. search needs)
+    (λ c. search needs) (λ c. search needs) (λ c κs. search needs) (λ c. search needs) loop-again returns)

@@ -1,0 +1,4 @@
+pub mod Zeros
+pub mod Filling
+pub mod Parts
+pub mod Stream

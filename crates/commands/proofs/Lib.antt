@@ -1,0 +1,3 @@
+pub mod Standings
+mod Clear
+mod Steps

@@ -1,0 +1,3 @@
+-- When the parts of a hash are legal, and when a byte string is a stored form.
+pub mod Legal
+pub mod Form

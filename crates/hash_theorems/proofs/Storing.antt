@@ -1,0 +1,232 @@
+-- Laws of the stored form.
+use mathlib.Core.Bool.{true}
+use mathlib.Core.List.{List, _++_, append-assoc}
+use mathlib.Core.Path.{_≡_, sym, ap, _∙_}
+use Prim.Native.Nat.{ℕ, _+_, _*_, _-_, _/_, _%_, _^_, _<_}
+use native.Mathlib.Omega.{arith}
+use native.Mathlib.Decide.{decLt}
+use borrow.Author.Tests.{le-leb, eq-eqb}
+use lib.Dec.{lit<}
+use lib.ListN.{length, getD, take, drop, length-drop, length-append, take-append-drop, length-take}
+use lib.Seq.{getD-drop, getD-take, drop-at, take-add}
+use Rattle.simd.specs.Basic.{familyOf, blockBytes, blockBits, stateWords, wordsOf, bytesOf}
+use Rattle.laws.proofs.Bits.{getD-bitsOf, getD-take-past}
+use Rattle.laws.proofs.LittleEndian.{length-bytesOf, length-wordsOf, words-bytes, bytes-words, sum-lt, wordsOf-fit}
+use Rattle.bits.specs.Zero.{allZero, clear, padded}
+use Rattle.little_endian.specs.Numbers.{littleEndian, number}
+use Rattle.form.specs.Head.{lengthBytes, headBytes, formWidth, formBits}
+use Rattle.little_endian.proofs.Writing.{length-littleEndian, number-written, number-read}
+use Rattle.hash.specs.Open.{family, used, reached, legal}
+use Rattle.hash.specs.Form.{formBytes, formOf, formFamily, hashOf, restoreRefusal}
+use Rattle.hash.specs.declared.Hash.{Hash}
+use Rattle.bits.proofs.Zeros.{clear-at, clear-of, take-padded, padded-past, padded-take, getD-padded, length-padded}
+use Rattle.tail.proofs.Sizes.{words-within, bytes-within, block-within}
+use Rattle.bits.proofs.Zeros.{bytes-past}
+use Rattle.hash_parts.proofs.Accepted.{Accepted}
+use Rattle.hash.proofs.Holding.{Value, length-reached, legal-width, legal-state, legal-tail}
+
+-- Byte strings with the same bytes, and zeros after them, are clear from the same places on.
+pub clear-same : (n : ℕ) (a b : List ℕ) → ((j : ℕ) → getD a j 0 ≡ getD b j 0) → clear n a ≡ true → clear n b ≡ true
+clear-same n a b same zeros =
+    clear-of n b
+    (λ i past.
+    let place : 8 * (i / 8) + i % 8 ≡ i = omega arith in
+    let here = getD-bitsOf b (i / 8) (i % 8) (omega arith) in
+    let there = getD-bitsOf a (i / 8) (i % 8) (omega arith) in
+    let bits = here ∙ ap (λ (x : ℕ). x / 2 ^ (7 - i % 8) % 2) (sym (same (i / 8))) ∙ sym there in
+    rw place at bits ∙ clear-at n a zeros i past)
+
+pub reached-fits : (h : Hash) → ((i : ℕ) → getD (h .state) i 0 < 2 ^ 32) → (i : ℕ) → getD (reached h) i 0 < 2 ^ 32
+unfolding reached
+reached-fits h fits i = elim (decLt i (stateWords (family h))) [
+  | yes below ↦ rw (getD-take (stateWords (family h)) (h .state) i 0 below) (fits i)
+  | no past ↦ rw (getD-take-past (stateWords (family h)) (h .state) i (omega arith)) (lit< tt)
+]
+
+-- A hash read from a form whose width and bit length are known.
+rebuilt : ℕ → ℕ → List ℕ → Hash
+rebuilt width bits form =
+    record {
+      width = width;
+      bits = bits;
+      state = padded 32 (wordsOf (stateWords (familyOf width)) (drop headBytes form));
+      tail = padded 128 (drop (headBytes + blockBytes (familyOf width)) form);
+    }
+
+-- A form of four parts.
+module _ (a b s t : List ℕ) (z : ℕ) (two : length a ≡ 2) (four : length b ≡ lengthBytes) (block : length s ≡ z) where
+  pub behind-width : drop 2 (a ++ b ++ s ++ t) ≡ b ++ (s ++ t)
+  behind-width = rw (append-assoc (a ++ b) s t, append-assoc a b (s ++ t)) (drop-at a (b ++ (s ++ t)) 2 two)
+
+  pub behind-bits : drop headBytes (a ++ b ++ s ++ t) ≡ s ++ t
+  behind-bits = rw (append-assoc (a ++ b) s t) (drop-at (a ++ b) (s ++ t) headBytes (omega (arith, length-append a b)))
+
+  pub behind-state : drop (headBytes + z) (a ++ b ++ s ++ t) ≡ t
+  behind-state = drop-at (a ++ b ++ s) t (headBytes + z) (omega (arith, length-append (a ++ b) s, length-append a b))
+
+  pub four-parts : length (a ++ b ++ s ++ t) ≡ headBytes + z + length t
+  four-parts = omega (arith, length-append (a ++ b ++ s) t, length-append (a ++ b) s, length-append a b)
+
+-- Stored and restored.
+module _ (h : Hash) (v : Value h) (good : legal h ≡ true) where
+  abbrev size : ℕ
+  size = blockBytes (family h)
+
+  -- The four parts of its form.
+  abbrev width-part : List ℕ
+  width-part = littleEndian 2 (h .width)
+
+  abbrev bits-part : List ℕ
+  bits-part = littleEndian lengthBytes (h .bits)
+
+  abbrev state-part : List ℕ
+  state-part = bytesOf (reached h)
+
+  abbrev tail-part : List ℕ
+  tail-part = take (blockBytes (family h)) (h .tail)
+
+  block-bytes : length state-part ≡ size
+  block-bytes = omega (arith, length-bytesOf (reached h), length-reached h (v .sized .words))
+
+  tail-bytes : length tail-part ≡ size
+  tail-bytes = omega (arith, length-take size (h .tail), v .sized .bytes, bytes-within (family h))
+
+  form-width : formWidth (formOf h) ≡ h .width
+  unfolding formWidth formOf
+  form-width =
+      rw (
+        append-assoc (width-part ++ bits-part) state-part tail-part,
+        append-assoc width-part bits-part (state-part ++ tail-part),
+      )
+      (number-written 2 (h .width) (bits-part ++ (state-part ++ tail-part)) (v .width-fits))
+
+  form-bits : formBits (formOf h) ≡ h .bits
+  unfolding formBits formOf
+  form-bits =
+      rw (behind-width width-part bits-part state-part tail-part size
+      (length-littleEndian 2 (h .width)) (length-littleEndian lengthBytes (h .bits)) block-bytes)
+      (number-written lengthBytes (h .bits) (state-part ++ tail-part) (v .bits-fit))
+
+  form-words : wordsOf (stateWords (family h)) (drop headBytes (formOf h)) ≡ reached h
+  unfolding formOf
+  form-words =
+      rw (
+        behind-bits width-part bits-part state-part tail-part size
+            (length-littleEndian 2 (h .width)) (length-littleEndian lengthBytes (h .bits)) block-bytes,
+        ← length-reached h (v .sized .words),
+      )
+      (words-bytes (reached h) tail-part (reached-fits h (v .word-fits)))
+
+  form-tail : drop (headBytes + size) (formOf h) ≡ tail-part
+  unfolding formOf
+  form-tail =
+      behind-state width-part bits-part state-part tail-part size
+      (length-littleEndian 2 (h .width)) (length-littleEndian lengthBytes (h .bits)) block-bytes
+
+  pub form-length : length (formOf h) ≡ formBytes (family h)
+  unfolding formOf
+  form-length =
+      let parts = four-parts width-part bits-part state-part tail-part size
+      (length-littleEndian 2 (h .width)) (length-littleEndian lengthBytes (h .bits)) block-bytes in
+      omega (arith, parts, tail-bytes)
+
+  past-block : allZero (drop size (h .tail)) ≡ true
+  past-block = bytes-past (used h) size (h .tail) (v .sized .byte-fits) (legal-tail h good) (block-within (family h) (h .bits))
+
+  same-tail : padded 128 tail-part ≡ h .tail
+  same-tail = padded-take 128 size (h .tail) (v .sized .bytes) past-block
+
+  pub form-hash : hashOf (formOf h) ≡ h
+  unfolding hashOf rebuilt reached
+  form-hash =
+      let words = form-words in
+      let state = ap (padded 32) words ∙ padded-take 32 (stateWords (family h)) (h .state) (v .sized .words) (legal-state h good) in
+      let tail = ap (padded 128) form-tail ∙ same-tail in
+      (λ i. rebuilt (form-width i) (form-bits i) (formOf h))
+      ∙ λ i. record { width = h .width; bits = h .bits; state = state i; tail = tail i }
+
+  form-clear : clear (used h) tail-part ≡ true
+  form-clear =
+      clear-same (used h) (h .tail) tail-part
+      (λ j. ap (λ (l : List ℕ). getD l j 0) (sym same-tail) ∙ getD-padded 128 tail-part j (omega (arith, tail-bytes, bytes-within (family h))))
+      (legal-tail h good)
+
+  pub form-accepted : restoreRefusal (formOf h) ≡ 0
+  unfolding restoreRefusal
+  form-accepted =
+      rw (
+        le-leb 2 (length (formOf h)) (omega (arith, form-length)),
+        form-width,
+        form-bits,
+        legal-width h good,
+        eq-eqb (length (formOf h)) (formBytes (family h)) form-length,
+        form-tail,
+        form-clear,
+      )
+
+module _ (form : List ℕ) (fits : (i : ℕ) → getD form i 0 < 256) (a : Accepted form) where
+  dropped-fits : (n i : ℕ) → getD (drop n form) i 0 < 256
+  dropped-fits n i = rw getD-drop (fits (n + i))
+
+  read-words : length (wordsOf (stateWords (formFamily form)) (drop headBytes form)) ≡ stateWords (formFamily form)
+  read-words = length-wordsOf (stateWords (formFamily form)) (drop headBytes form)
+
+  read-state : reached (hashOf form) ≡ wordsOf (stateWords (formFamily form)) (drop headBytes form)
+  unfolding reached hashOf
+  read-state =
+      take-padded 32 (stateWords (formFamily form)) (wordsOf (stateWords (formFamily form)) (drop headBytes form)) read-words
+      (words-within (formFamily form))
+
+  read-tail : length (drop (headBytes + blockBytes (formFamily form)) form) ≡ blockBytes (formFamily form)
+  read-tail = omega (arith, length-drop (headBytes + blockBytes (formFamily form)) form, a .size)
+
+  pub read-legal : legal (hashOf form) ≡ true
+  unfolding legal hashOf
+  read-legal =
+      let f = formFamily form in
+      let state = padded-past 32 (stateWords f) (wordsOf (stateWords f) (drop headBytes form)) (omega (arith, read-words)) in
+      let tail =
+      clear-same (formBits form % blockBits f) (drop (headBytes + blockBytes f) form) (padded 128 (drop (headBytes + blockBytes f) form))
+      (λ j. sym (getD-padded 128 (drop (headBytes + blockBytes f) form) j (omega (arith, read-tail, bytes-within f))))
+      (a .clean) in
+      rw (a .known, state, tail)
+
+  pub read-value : Value (hashOf form)
+  unfolding hashOf formWidth formBits number
+  read-value =
+      let f = formFamily form in
+      let tail = drop (headBytes + blockBytes f) form in
+      let words = wordsOf (stateWords f) (drop headBytes form) in
+      record {
+        sized =
+            record {
+              words = length-padded 32 words;
+              bytes = length-padded 128 tail;
+              byte-fits = λ i. rw (getD-padded 128 tail i (omega (arith, read-tail, bytes-within f))) (dropped-fits (headBytes + blockBytes f) i);
+            };
+        width-fits = sum-lt 2 (λ t. getD form t 0) fits;
+        bits-fit = sum-lt lengthBytes (λ t. getD (drop 2 form) t 0) (dropped-fits 2);
+        word-fits =
+            λ i.
+            rw (getD-padded 32 words i (omega (arith, read-words, words-within f)))
+            (wordsOf-fit (stateWords f) (drop headBytes form) i (dropped-fits headBytes));
+      }
+
+  -- The four parts of a form, one behind the other.
+  whole : (z : ℕ) → take 2 form ++ take lengthBytes (drop 2 form) ++ take z (drop headBytes form) ++ drop (headBytes + z) form ≡ form
+  whole z = rw (← take-add 2 lengthBytes form, ← take-add headBytes z form) (take-append-drop (headBytes + z) form)
+
+  pub read-form : formOf (hashOf form) ≡ form
+  unfolding formOf hashOf formWidth formBits
+  read-form =
+      let f = formFamily form in
+      let tail = drop (headBytes + blockBytes f) form in
+      let same : 4 * stateWords f ≡ blockBytes f = omega arith in
+      let width = number-read 2 form fits (omega (arith, a .size)) in
+      let bits = number-read lengthBytes (drop 2 form) (dropped-fits 2) (omega (arith, a .size, length-drop 2 form)) in
+      let state : bytesOf (reached (hashOf form)) ≡ take (blockBytes f) (drop headBytes form) =
+      ap bytesOf read-state
+      ∙ bytes-words (stateWords f) (drop headBytes form) (dropped-fits headBytes) (omega (arith, a .size, length-drop headBytes form))
+      ∙ ap (λ (n : ℕ). take n (drop headBytes form)) same in
+      let rest = take-padded 128 (blockBytes f) tail read-tail (bytes-within f) in
+      (λ i. width i ++ bits i ++ state i ++ rest i) ∙ whole (blockBytes f)

@@ -1,0 +1,2 @@
+-- Sources whose bytes are shifted.
+pub mod Source

@@ -1,0 +1,32 @@
+-- What the calls that hold a stored form answer, and what they leave behind in what they were lent.
+use mathlib.Core.List.{List}
+use Prim.Native.Nat.{ℕ, zero, suc}
+use Rattle.hash.specs.Open.{first, openAnswer, feedAnswer, takeAnswer}
+use Rattle.hash.specs.Form.{storeAnswer, restoreAnswer}
+use Rattle.hash.specs.declared.Hash.{Hash}
+use Rattle.hash.specs.declared.Fed.{Fed}
+
+-- A number behind a pointer: a refusal leaves it as it was.
+unfoldable pub stored : ℕ → ℕ → ℕ → ℕ
+stored zero new old = new
+stored (suc n) new old = old
+
+-- simd_open: the empty hash, stored.
+unfoldable pub openedHash : ℕ → Hash
+openedHash width = openAnswer width .hash
+
+unfoldable pub openCall : ℕ → List ℕ → ℕ
+openCall width form = first (openAnswer width .refusal) (storeAnswer (openedHash width) form .refusal)
+
+-- simd_feed: the form is restored, fed and stored again.
+unfoldable pub fedFrom : List ℕ → List ℕ → ℕ → Fed
+fedFrom form piece bits = feedAnswer (restoreAnswer form .hash) piece bits
+
+unfoldable pub feedCall : List ℕ → List ℕ → ℕ → ℕ
+feedCall form piece bits =
+    first (restoreAnswer form .refusal)
+    (first (fedFrom form piece bits .refusal) (storeAnswer (fedFrom form piece bits .hash) form .refusal))
+
+-- simd_take: the form is restored and taken.
+unfoldable pub takeCall : List ℕ → List ℕ → ℕ
+takeCall form out = first (restoreAnswer form .refusal) (takeAnswer (restoreAnswer form .hash) out .refusal)

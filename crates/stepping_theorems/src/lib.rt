@@ -1,0 +1,1 @@
+// The calls of stepping undo each other. It has no code: the theorems are in proofs/.

@@ -1,0 +1,2 @@
+-- What the contracts of the rows of a step backward cite.
+pub mod Rows

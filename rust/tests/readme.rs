@@ -1,0 +1,30 @@
+//! README's fragment in Rust is the one below, which is run.
+
+use simd::Refusal;
+
+#[rustfmt::skip]
+fn fragment() -> Result<(), Refusal> {
+// README
+let digest = simd::hash_bytes(256, b"abc")?;
+println!("{digest}");                       // lowercase hexadecimal; digest.to_vec() has its bytes
+
+let mut hash = simd::Hash::open(512)?;      // also a std::io::Write
+hash.feed_bytes(b"a reading")?;
+hash.feed(&[0b1010_0000], 3)?;              // and three bits more
+println!("{}", hash.take().digest);
+// end
+    Ok(())
+}
+
+#[test]
+fn fragment_is_readmes() {
+    let readme = include_str!("../../README.md");
+    let shown = readme.split_once("```rust\n").unwrap().1;
+    let shown = shown.split_once("```\n").unwrap().0;
+    let run = include_str!("readme.rs")
+        .split_once("// README\n")
+        .unwrap()
+        .1;
+    assert_eq!(run.split_once("// end\n").unwrap().0, shown);
+    assert_eq!(fragment(), Ok(()));
+}

@@ -1,0 +1,266 @@
+#!/usr/bin/env python3
+"""include/simd.h as a file: what compilers say to it, its examples and README's
+as they stand, its texts and version, and the memory that the library uses.
+
+    tests/c/check.py
+
+Needs target/staticlib/libsimd_c.a, gcc, g++, nm and objdump; clang is used
+where it is there.  What the calls do is tried by door.c and the test programs above.
+"""
+
+import os
+import re
+import shutil
+import subprocess
+import sys
+
+HERE = os.path.dirname(os.path.abspath(__file__))
+ROOT = os.path.dirname(os.path.dirname(HERE))
+sys.path.insert(0, os.path.dirname(HERE))
+from tally import Tally  # noqa: E402
+import simd_ref as ref  # noqa: E402
+import frames  # noqa: E402
+
+BUILT = os.path.join(ROOT, "target", "tests", "c")
+ARCHIVE = os.path.join(ROOT, "target", "staticlib", "libsimd_c.a")
+INCLUDE = "-I" + os.path.join(ROOT, "include")
+STRICT = ["-Wall", "-Wextra", "-Wpedantic", "-Werror"]
+STRICTER = STRICT + ["-Wconversion", "-Wsign-conversion", "-Wshadow", "-Wcast-qual", "-Wundef",
+                     "-Wunused"]
+ALLOWED = {"memcpy", "memset"}
+
+tally = Tally("header")
+
+
+def read(*parts):
+    with open(os.path.join(ROOT, *parts), encoding="utf-8") as f:
+        return f.read()
+
+
+HEADER = read("include", "simd.h")
+
+
+def run(command, **options):
+    """(status, standard output, standard error) of a command."""
+    done = subprocess.run(command, stdout=subprocess.PIPE, stderr=subprocess.PIPE, **options)
+    return done.returncode, done.stdout.decode(), done.stderr.decode()
+
+
+def written(name, text):
+    path = os.path.join(BUILT, name)
+    with open(path, "w", encoding="utf-8") as f:
+        f.write(text)
+    return path
+
+
+def compilers(source):
+    """Commands that a source file has to compile under: C also as C++."""
+    commands = []
+    if source.endswith(".c"):
+        commands += [["gcc", "-std=c99"], ["gcc", "-std=c11"], ["clang", "-std=c99"]]
+    for compiler in ("g++", "clang++"):
+        commands += [[compiler, "-x", "c++", "-std=" + c] for c in ("c++11", "c++17")]
+    return [c for c in commands if not c[0].startswith("clang") or shutil.which(c[0])]
+
+
+def program(source, compiler):
+    """The program built from a source file, None where it does not compile."""
+    out = os.path.join(BUILT, os.path.splitext(os.path.basename(source))[0])
+    status, _, errors = run([*compiler, *STRICT, "-O2", INCLUDE, "-o", out, source,
+                             "-x", "none", ARCHIVE])
+    tally.equal((status, errors), (0, ""), "%s: %s" % (" ".join(compiler), os.path.basename(source)))
+    return None if status else out
+
+
+def examples(text):
+    """{file name: source} of the examples in the header's first comment."""
+    found, name = {}, None
+    for line in text[:text.index("*/") + 2].split("\n"):
+        head = re.match(r" {5}(\w+\.(?:c|cpp)): ", line)
+        if head:
+            name, found[head.group(1)] = head.group(1), []
+        elif name and line.startswith(7 * " "):
+            found[name].append(line[7:].removesuffix(" */"))
+        elif name and not line and found[name]:
+            found[name].append("")
+    return {name: "\n".join(lines).rstrip() + "\n" for name, lines in found.items()}
+
+
+def fenced(text, language):
+    return re.findall(r"^```%s\n(.*?)^```$" % language, text, re.M | re.S)
+
+
+def digest(width, data):
+    return ref.digest(width, data, 8 * len(data)).hex() + "\n"
+
+
+def check_compilers():
+    """The header alone, included twice, with nothing of it used."""
+    for name in ("alone.c", "alone.cpp"):
+        source = written(name, '#include "simd.h"\n#include "simd.h"\n')
+        for compiler in compilers(source):
+            status, _, errors = run([*compiler, *STRICTER, INCLUDE, "-fsyntax-only", source])
+            tally.equal((status, errors), (0, ""), "%s: the header alone" % " ".join(compiler))
+    # A compiler without attributes gets none.
+    stubs = os.path.join(BUILT, "stubs")
+    os.makedirs(stubs, exist_ok=True)
+    for name in ("stddef.h", "stdint.h", "stdbool.h"):
+        written(os.path.join("stubs", name), "")
+    status, text, _ = run(["gcc", "-std=c99", "-E", "-P", "-U__GNUC__", "-nostdinc", "-I" + stubs,
+                           INCLUDE, os.path.join(BUILT, "alone.c")])
+    tally.equal((status, text.count("uint8_t simd_"), "__attribute__" in text), (0, 9, False),
+                "no attributes where they are not known")
+
+
+CARELESS = '''#include "simd.h"
+void careless(uint8_t *out, uint64_t *number)
+{
+    uint8_t form[SIMD_FORM(256)], answer = 0;
+    %s
+    (void)form; (void)answer; (void)out; (void)number;
+}
+'''
+CARELESS_CALLS = [
+    ("-Werror=unused-result", "simd_open(256, form, sizeof form);"),
+    ("-Werror=unused-result", "simd_hash(256, form, 1, 8, out, 32);"),
+    ("-Werror=unused-result", "simd_tape(form, 1, out, 32, number, number + 1);"),
+    ("-Werror=nonnull", "answer = simd_open(256, NULL, 0);"),
+    ("-Werror=nonnull", "answer = simd_feed(form, 134, NULL, 0, 0, number);"),
+    ("-Werror=nonnull", "answer = simd_hash(256, NULL, 0, 0, out, 32);"),
+    ("-Werror=nonnull", "answer = simd_take(form, 134, out, 32, NULL);"),
+    ("-Werror=overflow", "answer = simd_open(65792, form, sizeof form);"),
+]
+
+
+def check_warnings():
+    """What the compiler says of an answer not looked at, of a null pointer and of
+    a width that does not fit."""
+    for k, (flag, call) in enumerate(CARELESS_CALLS):
+        source = written("careless%d.c" % k, CARELESS % call)
+        status, _, errors = run(["gcc", "-std=c99", flag, INCLUDE, "-c", "-o", os.devnull, source])
+        tally.equal((status, "[%s]" % flag in errors), (1, True), "a warning of " + call)
+    source = written("careful.c", CARELESS % "answer = simd_open(256, form, sizeof form);")
+    tally.equal(run(["gcc", "-std=c99", *STRICT, INCLUDE, "-fsyntax-only", source])[0], 0,
+                "no warning of a right call")
+
+
+def check_examples():
+    found = examples(HEADER)
+    tally.equal(sorted(found), ["stream.c", "vector.cpp", "whole.c"], "the header's examples")
+    for name, text in found.items():
+        source = written(name, text)
+        for compiler in compilers(source):
+            built = program(source, compiler)
+            if not built:
+                continue
+            if name == "whole.c":
+                tally.equal(run([built]), (0, digest(256, b"abc"), ""), name)
+            elif name == "vector.cpp":
+                tally.equal(run([built]), (0, digest(512, b""), ""), name)
+            else:
+                check_stream(built)
+
+
+def check_stream(built):
+    """65,792 is 256 once C has cut it to 16 bits."""
+    tally.equal(run([built], input=b"abc"), (0, digest(256, b"abc"), ""), "stream")
+    for width in ref.WIDTHS:
+        for size in (0, 1, 4095, 4096, 4097, 10000):
+            data = bytes(k * 37 % 251 for k in range(size))
+            tally.equal(run([built, str(width)], input=data), (0, digest(width, data), ""),
+                        "stream of %d bytes at %d" % (size, width))
+    for width in ("160", "65792", "-1", "0", "x"):
+        tally.equal(run([built, width], input=b"abc"),
+                    (1, "", "refused 1: the width is none of 224, 256, 384 and 512\n"),
+                    "stream at width " + width)
+
+
+def check_readme():
+    """README's program in C, as it stands."""
+    texts = fenced(read("README.md"), "c")
+    tally.equal(len(texts), 1, "one program in C")
+    for text in texts:
+        built = program(written("readme.c", text), ["gcc", "-std=c99"])
+        if built:
+            tally.equal(run([built]), (0, digest(256, b"abc"), ""), "README's program in C")
+
+
+TEXTS = '''#include <stdio.h>
+#include "simd.h"
+int main(void)
+{
+    for (int k = 0; k < 256; k++)
+        puts(simd_refusal_text((uint8_t)k));
+    printf("%d.%d.%d\\n", SIMD_VERSION_MAJOR, SIMD_VERSION_MINOR, SIMD_VERSION_PATCH);
+    puts(SIMD_VERSION);
+    return 0;
+}
+'''
+
+
+def check_texts():
+    """A text of its own for each number; one version in all places."""
+    numbers = [int(n) for n in re.findall(r"^#define SIMD_(?:ACCEPTED|REFUSED_\w+) (\d+)", HEADER, re.M)]
+    tally.equal(numbers, list(range(14)), "the numbers")
+    built = program(written("texts.c", TEXTS), ["gcc", "-std=c99"])
+    if not built:
+        return
+    *texts, joined, version = run([built])[1].splitlines()
+    tally.equal(len(set(texts[:14])), 14, "a text for each number")
+    tally.equal(set(texts[14:]), {"no such refusal"}, "no text for other numbers")
+    tally.equal(version, joined, "SIMD_VERSION and its parts")
+    cargo = re.search(r'^version = "(.*)"', read("rust", "Cargo.toml"), re.M).group(1)
+    tally.equal(cargo, version, "the version in rust/Cargo.toml")
+    tally.equal(re.findall(r"^## \[(\d.*?)\]", read("CHANGELOG.md"), re.M)[:1], [version],
+                "the last version in CHANGELOG.md")
+
+
+def check_memory():
+    """No heap and no variables: what the archive asks of others, and what it has
+    besides code and constants; the stack by measurement."""
+    _, undefined, _ = run(["nm", "-u", ARCHIVE])
+    _, defined, _ = run(["nm", "--defined-only", ARCHIVE])
+    wanted = set(re.findall(r"^\s+U (\S+)$", undefined, re.M))
+    here = set(re.findall(r"^\S+ \w (\S+)$", defined, re.M))
+    tally.equal(sorted(wanted - here - ALLOWED), [], "what the library calls")
+    variables = re.findall(r"^\S+ [bBcCdDgGsS] (\S+)$", defined, re.M)
+    tally.equal(variables, [], "variables of the library")
+    built = program(os.path.join(HERE, "stack.c"), ["gcc", "-std=c99"])
+    if not built:
+        return
+    status, output, errors = run([built])
+    print(output, end="")
+    tally.equal((status, errors), (0, ""), "the stack that the header names")
+    check_frames({name: int(used) for name, used in re.findall(r"^(simd_\w+) +(\d+) of", output, re.M)})
+
+
+def check_frames(measured):
+    """What was measured is at most what the code can need, and that at most what
+    the header names.  Up to three arguments and a gap are pushed by the caller."""
+    arguments = 4 * 8
+    named = {"simd_" + name.lower(): int(size)
+             for name, size in re.findall(r"^#define SIMD_STACK_(\w+) (\d+)", HEADER, re.M)}
+    named.pop("simd_max")
+    needed = frames.bounds(ARCHIVE)
+    tally.equal(set(needed), set(named), "a bound for each call")
+    tally.equal(set(measured), set(named), "a measurement of each call")
+    for name in sorted(set(named) & set(needed) & set(measured)):
+        most = needed[name] + arguments
+        tally.equal(measured[name] <= most <= named[name], True,
+                    "%s: measured %d, at most %d by its code, %d in the header"
+                    % (name, measured[name], most, named[name]))
+
+
+def main():
+    os.makedirs(BUILT, exist_ok=True)
+    check_compilers()
+    check_warnings()
+    check_examples()
+    check_readme()
+    check_texts()
+    check_memory()
+    return tally.finish()
+
+
+if __name__ == "__main__":
+    sys.exit(main())

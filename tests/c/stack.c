@@ -1,0 +1,225 @@
+/* The stack that each call of include/simd.h uses, against SIMD_STACK_OPEN and
+   its like.  Each call is made on a stack of its own that is filled with a
+   pattern; what is no longer the pattern afterwards was used.  Wrong is a bound
+   that is exceeded, and one that is more than a quarter too large: the library
+   has changed, and the header has to follow.  The exit status is 0 where all
+   bounds are right. */
+
+#define _XOPEN_SOURCE 700
+#include <stdio.h>
+#include <string.h>
+#include <ucontext.h>
+
+#include "simd.h"
+
+enum { STACK_WORDS = 32768, LONG = 4096 };
+
+static uint64_t stack[STACK_WORDS];
+static ucontext_t outside, inside;
+
+/* What the calls are lent, and what they answer. */
+static uint16_t width;
+static uint8_t form[SIMD_FORM_LARGE], a[LONG], b[LONG], out[LONG];
+static uint32_t words[SIMD_WORDS_LARGE];
+static size_t form_len, block_len, tape_len;
+static uint64_t bits, other_bits, number, second;
+static volatile uint8_t answer;
+
+/* The stack pointer before the call's arguments are put in place. */
+static uintptr_t before;
+#define MARK() __asm__ volatile("mov %%rsp, %0" : "=r"(before) : : "memory")
+
+static void call_open(void)
+{
+    MARK();
+    answer = simd_open(width, form, sizeof form);
+}
+
+static void call_feed(void)
+{
+    MARK();
+    answer = simd_feed(form, form_len, a, sizeof a, bits, &number);
+}
+
+static void call_take(void)
+{
+    MARK();
+    answer = simd_take(form, form_len, out, sizeof out, &number);
+}
+
+static void call_hash(void)
+{
+    MARK();
+    answer = simd_hash(width, a, sizeof a, bits, out, sizeof out);
+}
+
+static void call_expand(void)
+{
+    MARK();
+    answer = simd_expand(width, bits & 1, a, block_len, words, SIMD_WORDS_LARGE);
+}
+
+static void call_steps(void)
+{
+    MARK();
+    answer = simd_steps(width, bits & 1, b, block_len, a, block_len, out, sizeof out);
+}
+
+static void call_unsteps(void)
+{
+    MARK();
+    answer = simd_unsteps(width, bits & 1, b, block_len, a, block_len, out, sizeof out);
+}
+
+static void call_compare(void)
+{
+    MARK();
+    answer = simd_compare(width, a, sizeof a, bits, b, sizeof b, other_bits, &number, &second);
+}
+
+static void call_tape(void)
+{
+    MARK();
+    answer = simd_tape(b, tape_len, out, sizeof out, &number, &second);
+}
+
+static struct bound {
+    const char *name;
+    size_t bound, used;
+    void (*call)(void);
+    unsigned calls, accepted;
+} BOUNDS[] = {
+    {"simd_open", SIMD_STACK_OPEN, 0, call_open, 0, 0},
+    {"simd_feed", SIMD_STACK_FEED, 0, call_feed, 0, 0},
+    {"simd_take", SIMD_STACK_TAKE, 0, call_take, 0, 0},
+    {"simd_hash", SIMD_STACK_HASH, 0, call_hash, 0, 0},
+    {"simd_expand", SIMD_STACK_EXPAND, 0, call_expand, 0, 0},
+    {"simd_steps", SIMD_STACK_STEPS, 0, call_steps, 0, 0},
+    {"simd_unsteps", SIMD_STACK_UNSTEPS, 0, call_unsteps, 0, 0},
+    {"simd_compare", SIMD_STACK_COMPARE, 0, call_compare, 0, 0},
+    {"simd_tape", SIMD_STACK_TAPE, 0, call_tape, 0, 0},
+};
+enum { OPEN, FEED, TAKE, HASH, EXPAND, STEPS, UNSTEPS, COMPARE, TAPE, CALLS };
+
+static uint64_t pattern(size_t k)
+{
+    return (k + 1) * UINT64_C(0x9e3779b97f4a7c15);
+}
+
+/* Makes a call on the painted stack and keeps the most that was used. */
+static void measure(int which)
+{
+    struct bound *bound = &BOUNDS[which];
+    size_t k, used;
+    for (k = 0; k < STACK_WORDS; k++)
+        stack[k] = pattern(k);
+    getcontext(&inside);
+    inside.uc_stack.ss_sp = stack;
+    inside.uc_stack.ss_size = sizeof stack;
+    inside.uc_link = &outside;
+    makecontext(&inside, bound->call, 0);
+    swapcontext(&outside, &inside);
+    for (k = 0; stack[k] == pattern(k); k++)
+        ;
+    used = before - (uintptr_t)&stack[k];
+    if (used > bound->used)
+        bound->used = used;
+    bound->calls++;
+    bound->accepted += answer == SIMD_ACCEPTED;
+}
+
+/* Some bits of a, with zeros after them; b is the same but for a bit. */
+static void message(uint64_t count, size_t place)
+{
+    size_t k;
+    for (k = 0; k < LONG; k++)
+        a[k] = (uint8_t)(167 * k + 90);
+    if (count % 8)
+        a[count / 8] &= (uint8_t)(0xff00 >> count % 8);
+    memcpy(b, a, sizeof b);
+    if (place < count / 8)
+        b[place] ^= 1;
+    bits = other_bits = count;
+}
+
+/* A tape in b, with every command; its pieces fill more than one block and leave
+   a tail that is no whole byte. */
+static void tape(void)
+{
+    size_t at = 0;
+    int k;
+    b[at++] = 1;
+    b[at++] = (uint8_t)width;
+    b[at++] = (uint8_t)(width >> 8);
+    for (k = 0; k < 5; k++) {
+        b[at++] = 2;
+        memset(b + at, 0x5a, 32);
+        at += 32;
+        b[at++] = 3;
+        b[at++] = 203;
+        memset(b + at, 0, 32);
+        memset(b + at, 0xc3, 25);
+        at += 32;
+    }
+    b[at++] = 4;
+    b[at++] = 5;
+    tape_len = at;
+}
+
+int main(void)
+{
+    static const uint16_t WIDTHS[] = {224, 256, 384, 512, 160};
+    static const uint64_t TAILS[] = {0, 3, 8, 500, 1021};
+    static const uint64_t COUNTS[] = {0, 1, 8, 13, 511, 512, 513, 1024, 1031, 8192, 32761, 32768};
+    size_t w, t, c, most = 0;
+    unsigned wrong = 0;
+    int k;
+    for (w = 0; w < sizeof WIDTHS / sizeof *WIDTHS; w++) {
+        width = WIDTHS[w];
+        form_len = SIMD_FORM(width);
+        block_len = SIMD_BLOCK(width);
+        for (c = 0; c < sizeof COUNTS / sizeof *COUNTS; c++) {
+            message(COUNTS[c], LONG);
+            measure(HASH);
+            measure(COMPARE);
+            message(COUNTS[c], 0);
+            measure(COMPARE);
+            message(COUNTS[c], COUNTS[c] / 8 - 1);
+            measure(COMPARE);
+            other_bits /= 2;
+            other_bits -= other_bits % 8;
+            measure(COMPARE);
+            for (t = 0; t < sizeof TAILS / sizeof *TAILS; t++) {
+                measure(OPEN);
+                message(TAILS[t], LONG);
+                measure(FEED);
+                measure(TAKE);
+                message(COUNTS[c], LONG);
+                measure(FEED);
+                measure(TAKE);
+            }
+        }
+        for (bits = 0; bits < 2; bits++) {
+            measure(EXPAND);
+            measure(STEPS);
+            measure(UNSTEPS);
+        }
+        tape();
+        measure(TAPE);
+        tape_len--;
+        measure(TAPE);
+    }
+    for (k = 0; k < CALLS; k++) {
+        const struct bound *bound = &BOUNDS[k];
+        int right = bound->used <= bound->bound && 4 * bound->bound <= 5 * bound->used
+                    && bound->accepted > 0;
+        printf("%-12s %6zu of %6zu bytes of stack, %u calls, %u accepted%s\n", bound->name,
+               bound->used, bound->bound, bound->calls, bound->accepted, right ? "" : ": wrong");
+        wrong += !right;
+        if (bound->bound > most)
+            most = bound->bound;
+    }
+    wrong += most != SIMD_STACK_MAX;
+    printf("stack: %d bounds, %u wrong\n", CALLS + 1, wrong);
+    return wrong != 0;
+}
