@@ -21,6 +21,17 @@ lift-high y h = rw (lt-leb y 128 h)
 pub centred : (y : ℕ) → y < 257 → pos y -ℤ pos 257 ≡ negsuc (256 - y)
 centred y h = rw (lt-ltb y 257 h) (ap negsuc (omega arith))
 
+pub minus-none : (y : ℕ) → pos y -ℤ pos 0 ≡ pos y
+minus-none y = ap pos (omega arith)
+
+-- A lift is small.
+pub lift-mag : (y : ℕ) → y < 257 → mag (lift y) < 257
+lift-mag y h = bounded (decLe y 128)
+  where
+    bounded : Dec (y ≤ 128) → mag (lift y) < 257
+    bounded (yes low) = rw (lift-low y low) (omega arith)
+    bounded (no high) = rw (lift-high y (omega arith), centred y h) (omega arith)
+
 mag-neg : (n : ℕ) → mag (negℤ (pos n)) ≤ n
 mag-neg zero = le-refl zero
 mag-neg (suc n) = le-suc n

@@ -31,8 +31,10 @@ flat q y k =
     (cond (ltb k (3 * q)) (pair 233 (y (2 * (k - 2 * q))) (y (2 * (k - 2 * q) + 2 * q)))
     (pair 233 (y (2 * (k - 3 * q) + 1)) (y (2 * (k - 3 * q) + 1 + 2 * q))))
 
--- Values y below 257, and buffers for codes, pairs of codes and words of Z, where a quarter of the words is q.
+-- Values y below 257, and buffers for codes, pairs of codes and words of Z, where a quarter of the words is q: a multiple of 32, so that the
+-- values are parts of 128.
 pub record Buffers (q : ℕ) (y by185 by233 pairs words : List ℕ) : Type 0 where
+  pub parts : q % 32 ≡ 0
   pub values : length y ≡ 4 * q
   pub below : (k : ℕ) → getD y k 0 < 257
   pub first : length by185 ≡ 4 * q

@@ -1,4 +1,5 @@
 -- Codes, then pairs, then all words: together they are the words of Z.
+use native.Mathlib.Omega.{arith}
 use Rattle.matrix_words.proofs.Assembly.{flat-of}
 use borrow.Author.Needs.{needs}
 use Rattle.matrix_words.proofs.assemble.Statement.{statement}
@@ -7,7 +8,8 @@ use Rattle.matrix_words.proofs.assemble.Tie as tie
 codes-requires : tie.Need-codes-requires
 codes-requires c κs =
     let first = c .before .before .before .before in
-    (search needs, (search needs, first .before .before .before .pre .below))
+    let pre = first .before .before .before .pre in
+    ((search needs, (search needs, pre .below)), omega (arith, pre .parts, pre .values))
 
 returns : tie.Need-returns
 returns c =
