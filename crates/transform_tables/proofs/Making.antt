@@ -1,71 +1,88 @@
--- The table of roots, made row by row from the last.
+-- The table of roots, made from the last entry to the first.
+use mathlib.Core.Bool.{_&&_}
 use mathlib.Core.List.{List}
 use mathlib.Core.Path.{_≡_, sym, ap, _∙_, subst}
 use Prim.Native.Nat.{ℕ, _+_, _*_, _-_, _<_, _≤_}
 use native.Mathlib.Omega.{arith}
 use native.Mathlib.Decide.{decLt}
-use lib.ListN.{length, getD}
-use Rattle.simd.specs.Basic.{table}
+use lib.Dec.{T, eqb, eqb→eq, ltb, ltb→lt}
+use lib.ListN.{length, getD, set, length-set}
+use lib.Seq.{getD-set-same}
 use Rattle.simd.specs.Expansion.{power}
-use Rattle.laws.proofs.Stores.{Filled}
-use Rattle.laws.proofs.Table.{getD-table}
-use Rattle.transform_tables.specs.Roots.{Halved, Roots}
+use Rattle.laws.proofs.Below.{below, below-at}
+use Rattle.laws.proofs.Field.{power-lt}
+use Rattle.laws.proofs.Stores.{Stored}
+use Rattle.transform_tables.specs.Roots.{exponent, Begun, Roots}
 
--- One row more: the entries from l on are every second one from 2 l on.
-module _ (t t′ : List ℕ) (l n : ℕ) (sizes : (length t ≡ 512) × (0 < l) × (n ≤ l) × (l + n ≤ 128)) (done : Halved t (l + n))
-    (row : Filled (λ j. getD t (2 * l + 2 * j) 0) (λ j. l + j) t t′ n) where
-  other : (j : ℕ) → l + n ≤ j → getD t′ j 0 ≡ getD t j 0
-  other j past = row .others j (λ k below e. omega arith)
+-- Of the powers from the first on, every step-th is an entry of the last row or of one before it.
+abbrev pub fit : ℕ → ℕ → ℕ → ℕ → Type 0
+fit at first step n = (k : ℕ) → k < n → (first + step * k < 256) × (exponent 7 (at + k) ≡ first + step * k)
 
-  here : (j : ℕ) → l ≤ j → j < l + n → getD t′ j 0 ≡ getD t (2 * j) 0
-  here j from below =
-      let place : l + (j - l) ≡ j = omega arith in
-      let twice : 2 * l + 2 * (j - l) ≡ 2 * j = omega arith in
-      rw (place, twice) at (row .filled (j - l) (omega arith))
-
-  pub row-halved : ((k : ℕ) → k < 128 → getD t′ (128 + k) 0 ≡ getD t (128 + k) 0) × Halved t′ l
-  row-halved = (
-    (λ k h. other (128 + k) (omega arith)),
-    record {
-      each-row = λ j from below. elim (decLt j (l + n)) [
-        | yes less ↦ here j from less ∙ sym (other (2 * j) (omega arith))
-        | no past ↦ other j (omega arith) ∙ done .each-row j (omega arith) below ∙ sym (other (2 * j) (omega arith))
-      ];
-      below = λ j from below. elim (decLt j (l + n)) [
-        | yes less ↦ omega (arith, here j from less, done .below (2 * j) (omega arith) (omega arith))
-        | no past ↦ omega (arith, other j (omega arith), done .below j (omega arith) below)
-      ];
-    },
+pub fit-in : (at first step n : ℕ) → T (below n (λ k. ltb (first + step * k) 256)) → T (below n (λ k. eqb (exponent 7 (at + k)) (first + step * k)))
+    → fit at first step n
+fit-in at first step n inside same k h = (
+    ltb→lt (first + step * k) 256 (below-at n (λ k. ltb (first + step * k) 256) inside k h),
+    eqb→eq (exponent 7 (at + k)) (first + step * k) (below-at n (λ k. eqb (exponent 7 (at + k)) (first + step * k)) same k h),
   )
 
-pub halved-none : (t : List ℕ) → ((k : ℕ) → k < 128 → getD t (128 + k) 0 < 257) → Halved t 128
-halved-none t last =
+-- The modulus alone.
+pub begun-none : (t : List ℕ) → length t ≡ 512 → Begun (set t 0 257) 256
+begun-none t size =
     record {
-      each-row = λ j low high. absurd (omega arith);
-      below =
-          λ j low high.
-          let place : 128 + (j - 128) ≡ j = omega arith in
-          subst (λ p. getD t p 0 < 257) place (last (j - 128) (omega arith));
+      size = omega (arith, length-set t 0 257);
+      modulus = getD-set-same t 0 257 0 (omega arith);
+      entry = λ j from below. absurd (omega arith);
+      scaled = λ j from below. absurd (omega arith);
     }
 
--- The last row holds the first powers.
-pub last-power : (p t : List ℕ) → p ≡ table 256 (power 41) → ((k : ℕ) → k < 128 → getD t (128 + k) 0 ≡ getD p k 0)
-    → (k : ℕ) → k < 128 → getD t (128 + k) 0 ≡ power 41 k
-last-power p t powers last k h = last k h ∙ ap (λ l. getD l k 0) powers ∙ getD-table 256 (power 41) k 0 (omega arith)
+-- Entries of a row more.
+module _ (t t′ : List ℕ) (at first step n : ℕ) (places : (0 < at) × (at + n ≤ 256)) (exponents : fit at first step n) (done : Begun t (at + n))
+    (row : Stored (λ k a b. (a ≡ power 41 (first + step * k)) × (b ≡ 255 * power 41 (first + step * k))) (λ k. at + k) (λ k. 256 + at + k) t t′ n) where
+  other : (i : ℕ) → (at ≤ i → at + n ≤ i) → (256 + at ≤ i → 256 + at + n ≤ i) → getD t′ i 0 ≡ getD t i 0
+  other i low high = row .others i (λ k below. ((λ e. omega (arith, low (omega arith))), (λ e. omega (arith, high (omega arith)))))
 
--- The rows in t, and the products by 255 in t′.
-pub roots-made : (t t′ : List ℕ)
-    → ((k : ℕ) → k < 128 → getD t (128 + k) 0 ≡ power 41 k)
-    → Halved t 1
-    → ((i : ℕ) → i < 256 → getD t′ i 0 ≡ getD t i 0)
-    → ((i : ℕ) → 0 < i → i < 256 → getD t′ (256 + i) 0 ≡ 255 * getD t i 0)
-    → length t′ ≡ 512
-    → Roots t′
-roots-made t t′ last halved same scaled size =
+  here : (j : ℕ) → at ≤ j → j < at + n → (getD t′ j 0 ≡ power 41 (exponent 7 j)) × (getD t′ (256 + j) 0 ≡ 255 * power 41 (exponent 7 j))
+  here j from below =
+      let k : ℕ = j - at in
+      let place : at + k ≡ j = omega arith in
+      let second : 256 + at + k ≡ 256 + j = omega arith in
+      let pair = row .pairs k (omega arith) in
+      let same = ap (power 41) (sym (exponents k (omega arith) .1) ∙ ap (exponent 7) place) in (
+        ap (λ p. getD t′ p 0) (sym place) ∙ pair .0 ∙ same,
+        ap (λ p. getD t′ p 0) (sym second) ∙ pair .1 ∙ ap (λ v. 255 * v) same,
+      )
+
+  pub begun-more : Begun t′ at
+  begun-more =
+      record {
+        size = omega (arith, row .size, done .size);
+        modulus = other 0 (λ from. omega arith) (λ from. omega arith) ∙ done .modulus;
+        entry = λ j from below. elim (decLt j (at + n)) [
+          | yes less ↦ here j from less .0
+          | no past ↦ other j (λ low. omega arith) (λ high. omega arith) ∙ done .entry j (omega arith) below
+        ];
+        scaled = λ j from below. elim (decLt j (at + n)) [
+          | yes less ↦ here j from less .1
+          | no past ↦ other (256 + j) (λ low. omega arith) (λ high. omega arith) ∙ done .scaled j (omega arith) below
+        ];
+      }
+
+-- The exponents of the last row, and of each other entry: those of the entry at twice its place.
+last-exponent : (k : ℕ) → k < 128 → exponent 7 (128 + k) ≡ k
+unfolding exponent
+last-exponent k h = eqb→eq (exponent 7 (128 + k)) k (below-at 128 (λ k. eqb (exponent 7 (128 + k)) k) tt k h)
+
+next-exponent : (i : ℕ) → i < 128 → exponent 7 i ≡ exponent 7 (2 * i)
+unfolding exponent
+next-exponent i h = eqb→eq (exponent 7 i) (exponent 7 (2 * i)) (below-at 128 (λ i. eqb (exponent 7 i) (exponent 7 (2 * i))) tt i h)
+
+pub roots-made : (t : List ℕ) → Begun t 1 → Roots t
+roots-made t made =
     record {
-      size = size;
-      last-row = λ k h. same (128 + k) (omega arith) ∙ last k h;
-      each-row = λ i low high. same i (omega arith) ∙ halved .each-row i low high ∙ sym (same (2 * i) (omega arith));
-      below = λ i low high. rw (same i high) (halved .below i low high);
-      scaled = λ i low high. scaled i low high ∙ ap (λ v. 255 * v) (sym (same i high));
+      size = made .size;
+      modulus = made .modulus;
+      last-row = λ k h. made .entry (128 + k) (omega arith) (omega arith) ∙ ap (power 41) (last-exponent k h);
+      each-row = λ i low high. made .entry i low (omega arith) ∙ ap (power 41) (next-exponent i high) ∙ sym (made .entry (2 * i) (omega arith) (omega arith));
+      below = λ i low high. rw (made .entry i low high) (power-lt 41 (exponent 7 i));
+      scaled = λ i low high. made .scaled i low high ∙ ap (λ v. 255 * v) (sym (made .entry i low high));
     }

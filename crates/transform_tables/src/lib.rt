@@ -6,7 +6,7 @@ ghost use Prim.Native.Nat.{ℕ, _+_, _*_, _%_, _≤_, _<_};
 ghost use lib.ListN.{length, getD};
 ghost use Rattle.simd.specs.Basic.{small as smallFamily, large as largeFamily, table};
 ghost use Rattle.simd.specs.Expansion.{power, added};
-ghost use Rattle.transform_tables.specs.Roots.{Halved, Roots};
+ghost use Rattle.transform_tables.specs.Roots.{exponent, Begun, Roots};
 
 // The powers of 41 modulo 257.
 const POWERS: [u16; 256] = [
@@ -1080,70 +1080,41 @@ pub fn large_length() -> [u16; 256]
     LARGE_LENGTH
 }
 
-// The last row of roots: the first 128 powers.
-fn last_row(powers: &[u16], t: &mut [u16])
-    requires { ⌜ (length (now powers) ≡ 256) × (length (now t) ≡ 512) ⌝ }
-    ensures { λ r. ⌜ ((k : ℕ) → k < 128 → getD (now (t .exit)) (128 + k) 0 ≡ getD (now (powers .entry)) k 0) ⌝ }
-{
-    let mut k = 0;
-    while k < 128 {
-        t[128 + k] = powers[k];
-        k += 1;
-    }
-}
-
-// Entries l to l + n - 1, from entries past them.
-fn halved_row(t: &mut [u16], l: usize, n: usize)
-    requires { ⌜ (length (now t) ≡ 512) × (0 < l) × (n ≤ l) × (l + n ≤ 128) ⌝ }
-    requires { ⌜ Halved (now t) (l + n) ⌝ }
-    ensures { λ r. ⌜ ((k : ℕ) → k < 128 → getD (now (t .exit)) (128 + k) 0 ≡ getD (now (t .entry)) (128 + k) 0) ⌝ }
-    ensures { λ r. ⌜ Halved (now (t .exit)) l ⌝ }
+// Entries of a row of roots, n from entry `at` on, and their products by 255: every step-th power from the first on.
+fn row(powers: &[u16; 256], t: &mut [u16], at: usize, first: usize, step: usize, n: usize)
+    requires { ⌜ (now powers ≡ table 256 (power 41)) × (0 < at) × (at + n ≤ 256) ⌝ }
+    requires { ⌜ ((k : ℕ) → k < n → (first + step * k < 256) × (exponent 7 (at + k) ≡ first + step * k)) × Begun (now t) (at + n) ⌝ }
+    ensures { λ r. ⌜ Begun (now (t .exit)) at ⌝ }
 {
     let mut k = 0;
     while k < n {
-        t[l + k] = t[2 * l + 2 * k];
+        let v = powers[first + step * k];
+        t[at + k] = v;
+        t[256 + at + k] = 255 * v;
         k += 1;
     }
 }
 
-// The rows before it, from the longest to the shortest. A row at a time becomes vector code; single entries would not.
-fn earlier_rows(t: &mut [u16])
-    requires { ⌜ length (now t) ≡ 512 ⌝ }
-    requires { ⌜ ((k : ℕ) → k < 128 → getD (now t) (128 + k) 0 < 257) ⌝ }
-    ensures { λ r. ⌜ ((k : ℕ) → k < 128 → getD (now (t .exit)) (128 + k) 0 ≡ getD (now (t .entry)) (128 + k) 0) ⌝ }
-    ensures { λ r. ⌜ Halved (now (t .exit)) 1 ⌝ }
-{
-    let mut m = 128;
-    while 1 < m {
-        let l = (m + 1) / 2;
-        halved_row(t, l, m - l);
-        m = l;
-    }
-}
-
-// The products by 255.
-fn scaled_rows(t: &mut [u16])
-    requires { ⌜ length (now t) ≡ 512 ⌝ }
-    requires { ⌜ ((i : ℕ) → 0 < i → i < 256 → getD (now t) i 0 < 257) ⌝ }
-    ensures { λ r. ⌜ ((i : ℕ) → i < 256 → getD (now (t .exit)) i 0 ≡ getD (now (t .entry)) i 0) ⌝ }
-    ensures { λ r. ⌜ ((i : ℕ) → 0 < i → i < 256 → getD (now (t .exit)) (256 + i) 0 ≡ 255 * getD (now (t .entry)) i 0) ⌝ }
-{
-    let mut j = 0;
-    while j < 255 {
-        t[257 + j] = 255 * t[1 + j];
-        j += 1;
-    }
-}
-
-// Makes the table of roots in a lent array: an array that is handed back is copied once more.
+// Makes the table of roots in a lent array: an array that is handed back is copied once more. Each call has at most 32 turns, which the
+// compiler unrolls: then all entries are constants, and the whole table is stored in one piece.
 pub fn fill_roots(t: &mut [u16])
     requires { ⌜ length (now t) ≡ 512 ⌝ }
     ensures { λ r. ⌜ Roots (now (t .exit)) ⌝ }
 {
     let p = powers();
-    last_row(&p, t);
-    earlier_rows(t);
-    scaled_rows(t);
+    t[0] = 257;
+    row(&p, t, 224, 96, 1, 32);
+    row(&p, t, 192, 64, 1, 32);
+    row(&p, t, 160, 32, 1, 32);
+    row(&p, t, 128, 0, 1, 32);
+    row(&p, t, 96, 64, 2, 32);
+    row(&p, t, 64, 0, 2, 32);
+    row(&p, t, 32, 0, 4, 32);
+    row(&p, t, 16, 0, 8, 16);
+    row(&p, t, 8, 0, 16, 8);
+    row(&p, t, 4, 0, 32, 4);
+    row(&p, t, 2, 0, 64, 2);
+    row(&p, t, 1, 0, 128, 1);
 }
 
 // The table of roots.
