@@ -13,7 +13,7 @@ use Rattle.simd.specs.Expansion.{power, added, transform}
 use Rattle.laws.proofs.Sum.{sum-ext, sum-zero, sum-append}
 use Rattle.laws.proofs.Table.{table-of, getD-table}
 use Rattle.laws.proofs.Field.{same-refl, same-of, same-add, same-trans, power-zero}
-use Rattle.transform_stages.specs.Stage.{part, Level, Bounded, Leads, Copied, Shuffled}
+use Rattle.transform_stages.specs.Stage.{part, Level, Bounded, Within, Leads, Copied, Shuffled}
 
 -- The numbers that are transformed: the block's bytes, and zero past its end.
 abbrev pub bytes : List ℕ → ℕ → ℕ
@@ -29,44 +29,64 @@ module _ (b x : List ℕ) (half : ℕ) (copied : Copied half b x) where
       let one : power 41 (128 * (k * 0)) ≡ 1 = ap (power 41) (omega arith) ∙ power-zero 41 in
       rw (past, here, one) (omega arith)
 
-  entry : (k q : ℕ) → k < 2 → q < half → getD x (k * half + q) 0 ≡ getD b q 0
+  entry : (k q : ℕ) → k < 2 → q < half → getD x (k * half + q) 0 ≡ getD b q 0 + 3598
   entry zero q hk hq = ap (λ p. getD x p 0) (omega arith) ∙ copied .low q hq
   entry (suc zero) q hk hq = ap (λ p. getD x p 0) (omega arith) ∙ copied .high q hq
   entry (suc (suc k)) q hk hq = absurd (omega arith)
 
   first-level : length b ≡ half → Level (bytes b) 128 half 2 (λ k q. k * half + q) x
-  first-level size = record { value = λ k q hk hq. ap (λ v. v % 257) (entry k q hk hq ∙ sym (part-two size k q)) }
+  first-level size =
+      record { value = λ k q hk hq. omega (arith, entry k q hk hq, part-two size k q) }
 
-  -- The first level has bytes.
-  pub first-bound : ((i : ℕ) → getD b i 0 < 256) → (limit : ℕ) → 255 ≤ limit → Bounded (2 * half) limit x
-  first-bound small limit high i h =
+  -- The first level has bytes, with 3598 added.
+  pub first-within : ((i : ℕ) → getD b i 0 < 256) → Within (2 * half) 3598 3853 x
+  first-within small i h =
       elim (decLt i half) [
-        | yes below ↦ omega (arith, copied .low i below, small i)
+        | yes below ↦
+            let here = copied .low i below in
+            let byte = small i in
+            (omega arith, omega arith)
         | no past ↦
             let place : half + (i - half) ≡ i = omega arith in
-            omega (arith, ap (λ p. getD x p 0) place, copied .high (i - half) (omega arith), small (i - half))
+            let here = copied .high (i - half) (omega arith) in
+            let same = ap (λ p. getD x p 0) place in
+            let byte = small (i - half) in
+            (omega arith, omega arith)
       ]
 
-module _ {half : ℕ} {x y : List ℕ} (turns : Shuffled half x y) where
+-- The bounds that a stage asks, and the last one.
+pub loosened : (n low high : ℕ) (x : List ℕ) → Within n low high x → 512 ≤ low → high ≤ 60000 → Within n 512 60000 x
+loosened n low high x within from to i h = let here = within i h in (omega arith, omega arith)
+
+pub under : (n low high : ℕ) (x : List ℕ) → Within n low high x → high ≤ 60000 → Bounded n 60000 x
+under n low high x within to i h = let here = within i h in omega arith
+
+module _ {half : ℕ} {x y : List ℕ} (turns : Shuffled half half x y) where
   shuffled-at : (i s : ℕ) → i < half → s < 2 → getD y (2 * i + s) 0 ≡ getD x (i + half * s) 0
   shuffled-at i zero hi hs = ap (λ p. getD y p 0) (omega arith) ∙ turns .even i hi ∙ ap (λ p. getD x p 0) (omega arith)
   shuffled-at i (suc zero) hi hs = turns .odd i hi ∙ ap (λ p. getD x p 0) (omega arith)
   shuffled-at i (suc (suc s)) hi hs = absurd (omega arith)
 
-  -- A shuffle keeps a bound.
-  pub shuffled-bound : (b : ℕ) → Bounded (2 * half) b x → Bounded (2 * half) b y
-  shuffled-bound b before i h =
+  -- A shuffle keeps bounds.
+  pub shuffled-within : (low high : ℕ) → Within (2 * half) low high x → Within (2 * half) low high y
+  shuffled-within low high before i h =
       elim (ℕ-discrete (i % 2) 0) [
         | yes even ↦
             let place : 2 * (i / 2) ≡ i = omega arith in
-            omega (arith, ap (λ p. getD y p 0) place, turns .even (i / 2) (omega arith), before (i / 2) (omega arith))
+            let same = ap (λ p. getD y p 0) place in
+            let here = turns .even (i / 2) (omega arith) in
+            let from = before (i / 2) (omega arith) in
+            (omega arith, omega arith)
         | no odd ↦
             let place : 2 * (i / 2) + 1 ≡ i = omega arith in
-            omega (arith, ap (λ p. getD y p 0) place, turns .odd (i / 2) (omega arith), before (half + i / 2) (omega arith))
+            let same = ap (λ p. getD y p 0) place in
+            let here = turns .odd (i / 2) (omega arith) in
+            let from = before (half + i / 2) (omega arith) in
+            (omega arith, omega arith)
       ]
 
 -- Three times: the eight values of a place come side by side.
-module _ (m half : ℕ) (whole : half ≡ 4 * m) {x y z w : List ℕ} (xy : Shuffled half x y) (yz : Shuffled half y z) (zw : Shuffled half z w) where
+module _ (m half : ℕ) (whole : half ≡ 4 * m) {x y z w : List ℕ} (xy : Shuffled half half x y) (yz : Shuffled half half y z) (zw : Shuffled half half z w) where
   moved : (k q : ℕ) → k < 8 → q < m → getD w (q * 8 + k) 0 ≡ getD x (k * m + q) 0
   moved k q hk hq =
       let digits = ap (λ v. v * m) {x = k} {y = 4 * (k / 4) + 2 * (k / 2 % 2) + k % 2} (omega arith) in
@@ -92,7 +112,7 @@ module _ (m half : ℕ) (whole : half ≡ 4 * m) {x y z w : List ℕ} (xy : Shuf
 pub level-8 : (b : List ℕ) (m : ℕ) {x₂ x₄ x₈ y z w : List ℕ} → length b ≡ 2 * (2 * m) → Copied (2 * (2 * m)) b x₂
     → Leads 2 (2 * m) (λ k q. k * (2 * (2 * m)) + q) (λ k q. k * (2 * m) + q) x₂ x₄
     → Leads 4 m (λ k q. k * (2 * m) + q) (λ k q. k * m + q) x₄ x₈
-    → Shuffled (2 * (2 * m)) x₈ y → Shuffled (2 * (2 * m)) y z → Shuffled (2 * (2 * m)) z w
+    → Shuffled (2 * (2 * m)) (2 * (2 * m)) x₈ y → Shuffled (2 * (2 * m)) (2 * (2 * m)) y z → Shuffled (2 * (2 * m)) (2 * (2 * m)) z w
     → Level (bytes b) 32 m 8 (λ k q. q * 8 + k) w
 level-8 b m {x₂ = x₂} size copied two four first second third =
     rows-level m (2 * (2 * m)) (omega arith) first second third (bytes b) 32

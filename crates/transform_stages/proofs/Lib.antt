@@ -1,3 +1,4 @@
 pub mod Level
+pub mod Parts
 pub mod Reduction
 pub mod Stages

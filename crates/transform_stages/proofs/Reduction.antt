@@ -29,5 +29,6 @@ reduced p r hp hr e =
     let difference = cancel (255 * p / 65536 * 257) (p - 257 * (255 * p / 65536)) r (omega arith) hr (e ∙ ap (λ v. v % 65536) (omega arith)) in
     (omega arith, ap (λ v. v % 257) difference ∙ minus-multiple p (255 * p / 65536) low)
 
-pub butterfly : (x f y b : ℕ) → (b ≤ 512) × (b % 257 ≡ f * y % 257) → Butterfly x f y (x + b) (x + 514 - b)
-butterfly x f y b h = record { plus = omega arith; minus = omega arith; plus-bound = omega arith; minus-bound = omega arith }
+pub butterfly : (x f y b : ℕ) → 512 ≤ x → (b ≤ 512) × (b % 257 ≡ f * y % 257) → Butterfly x f y (x + b) (x - b)
+butterfly x f y b high h =
+    record { plus = omega arith; minus = omega arith; plus-bound = (omega arith, omega arith); minus-bound = (omega arith, omega arith) }

@@ -2,13 +2,14 @@
 use mathlib.Core.List.{List}
 use mathlib.Core.Logic.{⊎-elim}
 use mathlib.Core.Path.{_≡_, sym, ap, _∙_, subst}
-use Prim.Native.Nat.{ℕ, zero, suc, _+_, _*_, _/_, _%_, _^_, _<_, _≤_}
+use Prim.Native.Nat.{ℕ, zero, suc, _+_, _*_, _-_, _/_, _%_, _^_, _<_, _≤_}
 use native.Mathlib.Nat.{pow-suc, mul-le-mul-right, suc-mul, mul-zero, eq-or-lt-of-le, div-add-mod', div-lt-iff-lt-mul, mod-lt}
+use native.Mathlib.Decide.{decLt}
 use native.Mathlib.Omega.{arith}
 use lib.ListN.{getD}
 use lib.Pow.{pow-pos}
 use Rattle.simd.specs.Expansion.{power}
-use Rattle.transform_stages.specs.Stage.{Bounded, limit, Leads, Butterfly}
+use Rattle.transform_stages.specs.Stage.{Within, Leads, Spreads, Butterfly}
 use Rattle.transform_tables.specs.Roots.{Roots}
 use Rattle.transform_stages.proofs.Level.{halves, next}
 
@@ -64,6 +65,24 @@ module _ (x t : List ℕ) where
       (λ below. rw (kept o i below hi .0, kept o i below hi .1) (done o i below hi))
       (eq-or-lt-of-le {n = o} {m = n} (omega arith))
 
+  -- All butterflies of the last stage of the large family, done in two parts.
+  pub two-parts : (y y′ : List ℕ)
+      → ((k : ℕ) → k < 64 → Butterfly (getD x (0 + k) 0) (getD t (128 + 1 * k) 0) (getD x (0 + 128 + k) 0) (getD y (0 + k) 0) (getD y (0 + 128 + k) 0))
+      → ((k : ℕ) → k < 64
+      → Butterfly (getD x (64 + k) 0) (getD t (192 + 1 * k) 0) (getD x (64 + 128 + k) 0) (getD y′ (64 + k) 0) (getD y′ (64 + 128 + k) 0))
+      → ((p : ℕ) → p < 64 + 128 → (64 ≤ p → 64 + 64 ≤ p) → getD y′ p 0 ≡ getD y p 0)
+      → Done 128 128 128 (λ q. q * 128) (λ q. q * (2 * 128)) (λ q k. 128 + 1 * k) y′ 1
+  two-parts y y′ low high kept (suc o) i ho hi = absurd (omega arith)
+  two-parts y y′ low high kept zero i ho hi =
+      elim (decLt i 64) [
+        | yes less ↦ rw (kept (0 + i) (omega arith) (λ from. omega arith), kept (0 + 128 + i) (omega arith) (λ from. omega arith)) (low i less)
+        | no past ↦
+            let near : 64 + (i - 64) ≡ 0 + i = omega arith in
+            let factor : 192 + 1 * (i - 64) ≡ 128 + 1 * i = omega arith in
+            let far : 64 + 128 + (i - 64) ≡ 0 + 128 + i = omega arith in
+            rw (near, factor, far) at (high (i - 64) (omega arith))
+      ]
+
   module _ (l m half : ℕ) (y : List ℕ) (roots : Roots t) where
     -- All butterflies of a stage, by value k and part q.
     module _ (at at′ : ℕ → ℕ → ℕ)
@@ -80,47 +99,61 @@ module _ (x t : List ℕ) where
                 (root-at t roots j l k order hk) (all k q hk hq));
           }
 
-      bounded : m ≤ 64 → ((k q : ℕ) → k < l → q < m → getD x (at k q) 0 ≤ limit m)
-          → (k q : ℕ) → k < 2 * l → q < m → getD y (at′ k q) 0 ≤ limit (m / 2)
-      bounded few before k q hk hq =
-          halves (λ k. getD y (at′ k q) 0 ≤ limit (m / 2)) l
-          (λ k h. omega (arith, all k q h hq .plus-bound, before k q h hq))
-          (λ k h. omega (arith, all k q h hq .minus-bound, before k q h hq))
+      spread : (low high : ℕ) → ((k q : ℕ) → k < l → q < m → (low + 512 ≤ getD x (at k q) 0) × (getD x (at k q) 0 ≤ high))
+          → (k q : ℕ) → k < 2 * l → q < m → (low ≤ getD y (at′ k q) 0) × (getD y (at′ k q) 0 ≤ high + 512)
+      spread low high before k q hk hq =
+          halves (λ k. (low ≤ getD y (at′ k q) 0) × (getD y (at′ k q) 0 ≤ high + 512)) l
+          (λ k h.
+          let bound = all k q h hq .plus-bound in
+          let from = before k q h hq in
+          (omega arith, omega arith))
+          (λ k h.
+          let bound = all k q h hq .minus-bound in
+          let from = before k q h hq in
+          (omega arith, omega arith))
           k hk
 
-    module _ (few : m ≤ 64) (before : Bounded (2 * half) (limit m) x) where
-      -- The values of a place side by side.
-      module _ (size : half ≡ m * l) (done : Done l half l (λ q. q * l) (λ q. q * (2 * l)) (λ q k. l + 1 * k) y m) where
-        by-rows : (k q : ℕ) → k < l → q < m
-            → Butterfly (getD x (q * l + k) 0) (getD t (l + k) 0) (getD x ((q + m) * l + k) 0) (getD y (q * (2 * l) + k) 0) (getD y (q * (2 * l) + (k + l)) 0)
-        by-rows k q hk hq =
-            let factor : l + 1 * k ≡ l + k = omega arith in
-            let other : q * l + half + k ≡ (q + m) * l + k = omega arith in
-            let high : q * (2 * l) + l + k ≡ q * (2 * l) + (k + l) = omega arith in
-            rw (← factor, ← other, ← high) (done q k hq hk)
+    -- The values of a place side by side.
+    module _ (size : half ≡ m * l) (done : Done l half l (λ q. q * l) (λ q. q * (2 * l)) (λ q k. l + 1 * k) y m) where
+      by-rows : (k q : ℕ) → k < l → q < m
+          → Butterfly (getD x (q * l + k) 0) (getD t (l + k) 0) (getD x ((q + m) * l + k) 0) (getD y (q * (2 * l) + k) 0) (getD y (q * (2 * l) + (k + l)) 0)
+      by-rows k q hk hq =
+          let factor : l + 1 * k ≡ l + k = omega arith in
+          let other : q * l + half + k ≡ (q + m) * l + k = omega arith in
+          let high : q * (2 * l) + l + k ≡ q * (2 * l) + (k + l) = omega arith in
+          rw (← factor, ← other, ← high) (done q k hq hk)
 
-        pub rows-lead : Leads l m (λ k q. q * l + k) (λ k q. q * (2 * l) + k) x y × Bounded (2 * half) (limit (m / 2)) y
-        rows-lead =
-            let below = bounded (λ k q. q * l + k) (λ k q. q * (2 * l) + k) by-rows few
-            (λ k q hk hq. before (q * l + k) (omega (arith, one-more q m l hq))) in (
-              leads (λ k q. q * l + k) (λ k q. q * (2 * l) + k) by-rows,
-              (λ p h. everywhere (λ p. getD y p 0 ≤ limit (m / 2)) m (2 * l) (λ q k hq hk. below k q hk hq) p (omega arith)),
-            )
+      pub rows-lead : Leads l m (λ k q. q * l + k) (λ k q. q * (2 * l) + k) x y × Spreads (2 * half) x y
+      rows-lead = (
+          leads (λ k q. q * l + k) (λ k q. q * (2 * l) + k) by-rows,
+          record {
+            within =
+                λ low high before.
+                let after = spread (λ k q. q * l + k) (λ k q. q * (2 * l) + k) by-rows low high
+                (λ k q hk hq. before (q * l + k) (omega (arith, one-more q m l hq))) in
+                λ p h.
+                everywhere (λ p. (low ≤ getD y p 0) × (getD y p 0 ≤ high + 512)) m (2 * l) (λ q k hq hk. after k q hk hq) p (omega arith);
+          },
+        )
 
-      -- The places of a value side by side.
-      module _ (size : half ≡ l * m) (done : Done m m half (λ k. k * (2 * m)) (λ k. k * m) (λ k q. l + k + 0 * q) y l) where
-        by-columns : (k q : ℕ) → k < l → q < m
-            → Butterfly (getD x (k * (2 * m) + q) 0) (getD t (l + k) 0) (getD x (k * (2 * m) + (q + m)) 0) (getD y (k * m + q) 0) (getD y ((k + l) * m + q) 0)
-        by-columns k q hk hq =
-            let factor : l + k + 0 * q ≡ l + k = omega arith in
-            let other : k * (2 * m) + m + q ≡ k * (2 * m) + (q + m) = omega arith in
-            let high : k * m + half + q ≡ (k + l) * m + q = omega arith in
-            rw (← factor, ← other, ← high) (done k q hk hq)
+    -- The places of a value side by side.
+    module _ (size : half ≡ l * m) (done : Done m m half (λ k. k * (2 * m)) (λ k. k * m) (λ k q. l + k + 0 * q) y l) where
+      by-columns : (k q : ℕ) → k < l → q < m
+          → Butterfly (getD x (k * (2 * m) + q) 0) (getD t (l + k) 0) (getD x (k * (2 * m) + (q + m)) 0) (getD y (k * m + q) 0) (getD y ((k + l) * m + q) 0)
+      by-columns k q hk hq =
+          let factor : l + k + 0 * q ≡ l + k = omega arith in
+          let other : k * (2 * m) + m + q ≡ k * (2 * m) + (q + m) = omega arith in
+          let high : k * m + half + q ≡ (k + l) * m + q = omega arith in
+          rw (← factor, ← other, ← high) (done k q hk hq)
 
-        pub columns-lead : Leads l m (λ k q. k * (2 * m) + q) (λ k q. k * m + q) x y × Bounded (2 * half) (limit (m / 2)) y
-        columns-lead =
-            let below = bounded (λ k q. k * (2 * m) + q) (λ k q. k * m + q) by-columns few
-            (λ k q hk hq. before (k * (2 * m) + q) (omega (arith, one-more k l m hk))) in (
-              leads (λ k q. k * (2 * m) + q) (λ k q. k * m + q) by-columns,
-              (λ p h. everywhere (λ p. getD y p 0 ≤ limit (m / 2)) (2 * l) m below p (omega arith)),
-            )
+      pub columns-lead : Leads l m (λ k q. k * (2 * m) + q) (λ k q. k * m + q) x y × Spreads (2 * half) x y
+      columns-lead = (
+          leads (λ k q. k * (2 * m) + q) (λ k q. k * m + q) by-columns,
+          record {
+            within =
+                λ low high before.
+                let after = spread (λ k q. k * (2 * m) + q) (λ k q. k * m + q) by-columns low high
+                (λ k q hk hq. before (k * (2 * m) + q) (omega (arith, one-more k l m hk))) in
+                λ p h. everywhere (λ p. (low ≤ getD y p 0) × (getD y p 0 ≤ high + 512)) (2 * l) m after p (omega arith);
+          },
+        )

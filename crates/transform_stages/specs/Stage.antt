@@ -18,27 +18,35 @@ pub record Level (a : ℕ → ℕ) (e m l : ℕ) (at : ℕ → ℕ → ℕ) (x :
 abbrev pub Bounded : ℕ → ℕ → List ℕ → Type 0
 Bounded n b x = (i : ℕ) → i < n → getD x i 0 ≤ b
 
--- The largest number that a level may have from which m parts are made. A level adds at most 514, and there are at most m of them to come.
-abbrev pub limit : ℕ → ℕ
-limit m = 60000 - 514 * m
+-- Each of the first n numbers lies between two bounds.
+abbrev pub Within : ℕ → ℕ → ℕ → List ℕ → Type 0
+Within n low high x = (i : ℕ) → i < n → (low ≤ getD x i 0) × (getD x i 0 ≤ high)
 
--- A butterfly: modulo 257 u is x + f y and v is x - f y, and neither is above x + 514.
+-- A butterfly: modulo 257 u is x + f y and v is x - f y, and neither is further than 512 from x.
 pub record Butterfly (x f y u v : ℕ) : Type 0 where
   pub plus : u % 257 ≡ (x + f * y) % 257
   pub minus : v % 257 ≡ (x + 256 * (f * y)) % 257
-  pub plus-bound : u ≤ x + 514
-  pub minus-bound : v ≤ x + 514
+  pub plus-bound : (x ≤ u) × (u ≤ x + 512)
+  pub minus-bound : (x ≤ v + 512) × (v ≤ x)
 
 -- Butterflies have led from the level of l values in x to the level of 2 l values in y, by the root 41^(2^j) of order 2 l.
 pub record Leads (l m : ℕ) (at at′ : ℕ → ℕ → ℕ) (x y : List ℕ) : Type 0 where
   pub next : (a : ℕ → ℕ) (j : ℕ) → 2 ^ j * l ≡ 128 → Level a (2 * 2 ^ j) (2 * m) l at x → Level a (2 ^ j) m (2 * l) at′ y
 
--- Both halves of y are the block b.
-pub record Copied (half : ℕ) (b y : List ℕ) : Type 0 where
-  pub low : (i : ℕ) → i < half → getD y i 0 ≡ getD b i 0
-  pub high : (i : ℕ) → i < half → getD y (half + i) 0 ≡ getD b i 0
+-- The n numbers of y lie within any bounds of those of x, widened by 512 on both sides.
+pub record Spreads (n : ℕ) (x y : List ℕ) : Type 0 where
+  pub within : (low high : ℕ) → Within n (low + 512) high x → Within n low (high + 512) y
 
--- y has the two halves of x, place by place in turn.
-pub record Shuffled (half : ℕ) (x y : List ℕ) : Type 0 where
-  pub even : (i : ℕ) → i < half → getD y (2 * i) 0 ≡ getD x i 0
-  pub odd : (i : ℕ) → i < half → getD y (2 * i + 1) 0 ≡ getD x (half + i) 0
+-- Both halves of y are the block b, with 14 times 257 added.
+pub record Copied (half : ℕ) (b y : List ℕ) : Type 0 where
+  pub low : (i : ℕ) → i < half → getD y i 0 ≡ getD b i 0 + 3598
+  pub high : (i : ℕ) → i < half → getD y (half + i) 0 ≡ getD b i 0 + 3598
+
+-- y has the first n places of the two halves of x, place by place in turn.
+pub record Shuffled (half n : ℕ) (x y : List ℕ) : Type 0 where
+  pub even : (i : ℕ) → i < n → getD y (2 * i) 0 ≡ getD x i 0
+  pub odd : (i : ℕ) → i < n → getD y (2 * i + 1) 0 ≡ getD x (half + i) 0
+
+-- At the first n places out has the remainder of x with what is added.
+pub record Begun (n : ℕ) (x added out : List ℕ) : Type 0 where
+  pub remainder : (i : ℕ) → i < n → getD out i 0 ≡ (getD x i 0 + getD added i 0) % 257

@@ -1,5 +1,6 @@
 -- Each branch adds the table of its kind of block.
 use mathlib.Core.Bool.{true, false}
+use mathlib.Core.Path.{refl}
 use borrow.Author.Needs.{needs}
 use Rattle.simd.specs.Basic.{large}
 use Rattle.simd.specs.Expansion.{added}
@@ -10,12 +11,12 @@ use Rattle.transform.proofs.finish_large.Tie as tie
 finish-requires : tie.Need-finish-requires
 finish-requires c κs =
     let pre = c .before .before .before .before .before .before .pre in
-    ((pre .0 .0, search needs, pre .0 .1), (pre .1, constant-bound 256 (added large true) (c .before .before .large-length .ensures)))
+    ((pre .0 .0, search needs, pre .0 .1, refl), (pre .1, constant-bound 256 (added large true) (c .before .before .large-length .ensures)))
 
 finish-requires-2 : tie.Need-finish-requires-2
 finish-requires-2 c κs =
     let pre = c .before .before .before .before .before .before .pre in
-    ((pre .0 .0, search needs, pre .0 .1), (pre .1, constant-bound 256 (added large false) (c .before .before .large-message .ensures)))
+    ((pre .0 .0, search needs, pre .0 .1, refl), (pre .1, constant-bound 256 (added large false) (c .before .before .large-message .ensures)))
 
 returns : tie.Need-returns
 returns c =

@@ -10,7 +10,7 @@ use Rattle.transform_stages.proofs.begin.Tie as tie
 
 abbrev Inv-loop : tie.InvT-loop
 Inv-loop block y₀ half i₀ y i =
-    (i ≤ half) × Stored (λ k u v. (u ≡ getD block k 0) × (v ≡ getD block k 0)) (λ k. k) (λ k. half + k) y₀ y i
+    (i ≤ half) × Stored (λ k u v. (u ≡ getD block k 0 + 3598) × (v ≡ getD block k 0 + 3598)) (λ k. k) (λ k. half + k) y₀ y i
 
 abbrev μ-loop : tie.MeasureT-loop
 μ-loop block y₀ half i₀ y i = half - i
@@ -29,5 +29,6 @@ pub begin-spec : {M : Type 1} → statement M
 begin-spec =
     tie.close
     (tie.spec Inv-loop μ-loop (λ c. (omega arith, stored-none)) (λ c. search needs)
+    (λ c. omega (arith, c .shared-slice-known .given (c .before .before .loop .i)))
     (λ c. omega (arith, c .shared-slice-known .given (c .before .before .loop .i))) (λ c. search needs) (λ c. search needs) (λ c. search needs)
     (λ c. search needs) (λ c. simp length-set (omega arith)) (λ c. search needs) (λ c. search needs) loop-again (λ c. search needs) returns)

@@ -29,7 +29,7 @@ butterflies-requires c κs =
       (omega arith, omega arith, omega arith),
       (
         (pre .1 .2, (λ q h. (omega arith, omega arith))),
-        (λ q h. omega (arith, pre .1 .3 (k * (2 * a .m) + q) (omega arith))),
+        (λ q h. pre .1 .3 (k * (2 * a .m) + q) (omega arith)),
       ),
     )
 
@@ -55,7 +55,7 @@ returns c =
     let s = c .before .before .before .before .before in
     let a = s .args in
     let loop = c .before .loop in
-    columns-lead (a .x .now) (a .t .now) (a .l) (a .m) (a .half) (loop .y) (s .pre .1 .2) (s .pre .1 .1) (s .pre .1 .3) (s .pre .0 .0)
+    columns-lead (a .x .now) (a .t .now) (a .l) (a .m) (a .half) (loop .y) (s .pre .1 .2) (s .pre .0 .0)
     (λ k q hk hq. loop .inv .2 k q (omega arith) hq)
 
 pub columns-spec : {M : Type 1} → statement M

@@ -1,33 +1,42 @@
--- Turn by turn, the output takes the remainder of a sum that fits 16 bits.
-use mathlib.Core.Path.{refl}
-use Prim.Native.Nat.{_+_, _-_, _%_, _≤_}
+-- Part by part, the output takes all remainders.
+use mathlib.Core.Path.{_≡_}
+use Prim.Native.Nat.{_-_, _%_, _≤_}
 use native.Mathlib.Omega.{arith}
 use borrow.Author.Needs.{needs}
-use lib.ListN.{getD}
-use Rattle.laws.proofs.Stores.{Filled, filled-none, filled-more}
+use lib.ListN.{length}
+use Rattle.transform_stages.specs.Stage.{Begun}
+use Rattle.transform_stages.proofs.Parts.{begun-none}
 use Rattle.transform_stages.proofs.finish.Statement.{statement}
 use Rattle.transform_stages.proofs.finish.Tie as tie
 
 abbrev Inv-loop : tie.InvT-loop
-Inv-loop x added out₀ n i₀ out i = (i ≤ n) × Filled (λ j. (getD x j 0 + getD added j 0) % 257) (λ k. k) out₀ out i
+Inv-loop x added out₀ n at₀ out at = (at % 128 ≡ 0) × (at ≤ n) × (length out ≡ n) × Begun at x added out
 
 abbrev μ-loop : tie.MeasureT-loop
-μ-loop x added out₀ n i₀ out i = n - i
+μ-loop x added out₀ n at₀ out at = n - at
 
-add-out : tie.Need-add-out Inv-loop μ-loop
-add-out c =
-    let at = c .before .before .before in
-    let bounds = at .before .pre .1 in
-    omega (arith, bounds .0 (at .loop .i) (omega arith), bounds .1 (at .loop .i) (omega arith))
+loop-holds : tie.Need-loop-holds Inv-loop μ-loop
+loop-holds c = let s = c .before .before .before in (omega arith, omega arith, s .pre .0 .2, begun-none _ _ _)
+
+more-finished-requires : tie.Need-more-finished-requires Inv-loop μ-loop
+more-finished-requires c κs =
+    let at = c .before .before in
+    let pre = at .before .before .before .before .pre in (
+      (omega (arith, pre .0 .3, at .loop .inv .0), omega arith, omega arith),
+      ((λ i h. pre .1 .0 i (omega arith)), (λ i h. pre .1 .1 i (omega arith)), at .loop .inv .3),
+    )
 
 loop-again : tie.Need-loop-again Inv-loop μ-loop
-loop-again c = (omega arith, filled-more (c .before .before .before .loop .inv .1) (omega arith) (λ j below e. omega arith) refl)
+loop-again c =
+    let made = c .before .before in
+    let at = made .before .before .before in
+    let pre = at .before .before .before .before .pre in
+    (omega (arith, at .loop .inv .0), omega (arith, pre .0 .3, at .loop .inv .0), omega arith, made .more-finished .ensures)
 
 returns : tie.Need-returns Inv-loop μ-loop
-returns c = λ i h. c .before .loop .inv .1 .filled i (omega arith)
+returns c = λ i h. c .before .loop .inv .3 .remainder i (omega arith)
 
 pub finish-spec : {M : Type 1} → statement M
 finish-spec =
     tie.close
-    (tie.spec Inv-loop μ-loop (λ c. (omega arith, filled-none)) (λ c. search needs) (λ c. search needs) (λ c. search needs) (λ c. search needs)
-    add-out (λ c. search needs) (λ c. search needs) (λ c. search needs) (λ c. search needs) loop-again (λ c. search needs) returns)
+    (tie.spec Inv-loop μ-loop loop-holds more-finished-requires (λ c. search needs) (λ c. search needs) loop-again (λ c. search needs) returns)

@@ -21,13 +21,13 @@ mul-p : tie.Need-mul-p
 mul-p c = omega (arith, bounded c)
 
 mul-m : tie.Need-mul-m
-mul-m c = omega (arith, bounded c, scaled c)
+mul-m c = rw (c .pre .2) (omega (arith, bounded c, scaled c))
 
 returns : tie.Need-returns
 returns c =
     let s = c .before in
     reduced (s .args .f * s .args .y) (c .wrapping-sub-u16 .result) (bounded s) (omega arith)
-    (rw (scaled s) at (c .wrapping-sub-u16 .ensures))
+    (rw (scaled s, s .pre .2) at (c .wrapping-sub-u16 .ensures))
 
 pub product-spec : {M : Type 1} → statement M
 product-spec =

@@ -29,7 +29,7 @@ butterflies-requires c κs =
       (omega arith, omega arith, omega arith),
       (
         (pre .1 .2, (λ k h. (omega arith, omega arith))),
-        (λ k h. omega (arith, pre .1 .3 (q * a .l + k) (omega arith))),
+        (λ k h. pre .1 .3 (q * a .l + k) (omega arith)),
       ),
     )
 
@@ -55,7 +55,7 @@ returns c =
     let s = c .before .before .before .before .before in
     let a = s .args in
     let loop = c .before .loop in
-    rows-lead (a .x .now) (a .t .now) (a .l) (a .m) (a .half) (loop .y) (s .pre .1 .2) (s .pre .1 .1) (s .pre .1 .3) (s .pre .0 .0)
+    rows-lead (a .x .now) (a .t .now) (a .l) (a .m) (a .half) (loop .y) (s .pre .1 .2) (s .pre .0 .0)
     (λ q k hq hk. loop .inv .2 q k (omega arith) hk)
 
 pub rows-spec : {M : Type 1} → statement M
