@@ -1,7 +1,11 @@
 /* Speed of the library beside the baselines of tests/baseline.
 
-     bench                 a line of figures for each task
-     bench count TASK WHO  runs it once, in the function `counted`
+     bench                               a line of figures for each task
+     bench lengths WIDTH BYTES..         cycles for a message of each length
+     bench feeds WIDTH BITS..            cycles for a feed of so many bits
+     bench count TASK WHO                runs a task once, in the function `counted`
+     bench count-length WIDTH BYTES WHO  the same for one message
+     bench count-feeds WIDTH BITS        the same for FEEDS feeds
 
    The figures of a task are taken in turns: library, portable, sse2, and again;
    of each the best time of all turns is kept. */
@@ -18,7 +22,7 @@
 void base_hash(int width, const uint8_t *msg, uint64_t bits, uint8_t *out);
 void sse2_compress(int large, int last, uint32_t *state, const uint8_t *block);
 
-enum { LONG = 1 << 16, SHORT = 64, SHORTS = 256, TURNS = 200 };
+enum { LONG = 1 << 16, SHORT = 64, SHORTS = 256, TURNS = 200, FEEDS = 1024 };
 enum { LIBRARY, PORTABLE, SSE2, WHO };
 
 static uint8_t message[LONG + 1], other[LONG + 1], another[LONG + 1], out[SIMD_DIGEST_MAX];
@@ -143,6 +147,30 @@ static void differ_first(int who, int width)
     compare_with(who, width, another);
 }
 
+/* One message of some length, again and again where it is short. */
+static const uint8_t *text = message;
+static size_t text_bytes, repeats = 1;
+
+static void one_length(int who, int width)
+{
+    for (size_t k = 0; k < repeats; k++)
+        hash_with(who, width, text, text_bytes);
+}
+
+/* Feeds of some bits, one after the other, to a hash just opened: also the
+   compressions are in it that they bring. */
+static uint64_t feed_bits;
+
+static void feed_again(int who, int width)
+{
+    static const uint8_t zeros[128] = {0};
+    size_t size = SIMD_FORM(width);
+    (void)who;
+    memcpy(form, fresh, size);
+    for (int k = 0; k < FEEDS; k++)
+        refused(simd_feed(form, size, zeros, sizeof zeros, feed_bits, &number));
+}
+
 struct task {
     const char *name;
     void (*run)(int who, int width);
@@ -159,6 +187,8 @@ static const struct task TASKS[] = {
     {"comparison, first byte differs", differ_first, 2 * LONG},
 };
 enum { COUNT = sizeof TASKS / sizeof *TASKS };
+static const struct task ONE_LENGTH = {"one message", one_length, 0};
+static const struct task FEED_AGAIN = {"feeds", feed_again, 0};
 static const int WIDTHS[] = {256, 512};
 
 static double seconds(void)
@@ -198,6 +228,48 @@ static void measure(const struct task *task, int width)
     fflush(stdout);
 }
 
+/* Best cycles of the first few implementations, in turns. */
+static void best_cycles(const struct task *task, int width, int whos, uint64_t *cycles)
+{
+    for (int who = 0; who < whos; who++)
+        cycles[who] = UINT64_MAX;
+    for (int turn = 0; turn < TURNS; turn++)
+        for (int who = 0; who < whos; who++) {
+            uint64_t start = __rdtsc();
+            task->run(who, width);
+            uint64_t used = __rdtsc() - start;
+            if (used < cycles[who])
+                cycles[who] = used;
+        }
+}
+
+static void lengths(int width, int count, char **bytes)
+{
+    uint64_t cycles[WHO];
+    for (int k = 0; k < count; k++) {
+        text_bytes = (size_t)strtoull(bytes[k], NULL, 10);
+        if (text_bytes > LONG)
+            exit(2);
+        repeats = text_bytes < 4096 ? 32 : 1;
+        best_cycles(&ONE_LENGTH, width, WHO, cycles);
+        printf("%zu", text_bytes);
+        for (int who = 0; who < WHO; who++)
+            printf("|%.1f", (double)cycles[who] / (double)repeats);
+        printf("\n");
+    }
+}
+
+static void feeds(int width, int count, char **bits)
+{
+    uint64_t cycles[1];
+    prepare(width);
+    for (int k = 0; k < count; k++) {
+        feed_bits = strtoull(bits[k], NULL, 10);
+        best_cycles(&FEED_AGAIN, width, 1, cycles);
+        printf("%s|%.1f\n", bits[k], (double)cycles[0] / FEEDS);
+    }
+}
+
 void counted(const struct task *task, int who, int width);
 
 __attribute__((noinline)) void counted(const struct task *task, int who, int width)
@@ -234,6 +306,38 @@ int main(int argc, char **argv)
         prepare(width);
         counted(&TASKS[which / 2], atoi(argv[3]), width);
         return 0;
+    }
+    if (argc == 5 && strcmp(argv[1], "count-length") == 0) {
+        int width = atoi(argv[2]), who = atoi(argv[4]);
+        text_bytes = (size_t)strtoull(argv[3], NULL, 10);
+        uint8_t *room = calloc(text_bytes + 1, 1);
+        if (!room)
+            return 2;
+        for (size_t k = 0; k < text_bytes; k += 509)
+            room[k] = (uint8_t)k;
+        hash_with(who, width, message, SHORT);  /* what is done once in a process is done */
+        text = room;
+        counted(&ONE_LENGTH, who, width);
+        return 0;
+    }
+    if (argc == 4 && strcmp(argv[1], "count-feeds") == 0) {
+        int width = atoi(argv[2]);
+        prepare(width);
+        feed_bits = strtoull(argv[3], NULL, 10);
+        counted(&FEED_AGAIN, LIBRARY, width);
+        return 0;
+    }
+    if (argc > 3 && strcmp(argv[1], "lengths") == 0) {
+        lengths(atoi(argv[2]), argc - 3, argv + 3);
+        return 0;
+    }
+    if (argc > 3 && strcmp(argv[1], "feeds") == 0) {
+        feeds(atoi(argv[2]), argc - 3, argv + 3);
+        return 0;
+    }
+    if (argc != 1) {
+        fprintf(stderr, "bench: see the head of bench/bench.c\n");
+        return 2;
     }
     check();
     for (int k = 0; k < 2 * COUNT; k++)

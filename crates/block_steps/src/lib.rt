@@ -11,8 +11,7 @@ fn turned_small(back: bool, s: [[u32; 4]; 4], w: &[[u32; 4]; 32]) -> [[u32; 4]; 
     if back {
         return unsteps::small::unsteps(s, w);
     }
-    let mut trail = [[0u32; 4]; 36];
-    steps_small::steps(s, w, &mut trail)
+    steps_small::steps(s, w)
 }
 
 pub fn small(back: bool, last: bool, state: &[u8], block: &[u8], out: &mut [u8])
@@ -34,8 +33,7 @@ fn turned_large(back: bool, s: [[u32; 8]; 4], w: &[[u32; 8]; 32]) -> [[u32; 8]; 
     if back {
         return unsteps::large::unsteps(s, w);
     }
-    let mut trail = [[0u32; 8]; 36];
-    steps_large::steps(s, w, &mut trail)
+    steps_large::steps(s, w)
 }
 
 pub fn large(back: bool, last: bool, state: &[u8], block: &[u8], out: &mut [u8])

@@ -36,15 +36,20 @@ pub fn fill(bytes: &[u8], at: usize, block: &mut [u8])
     }
 }
 
-// The length block of so many bits.
+// The length block of so many bits: eight bytes hold them, and zeros follow.
 pub fn length_block(bits: u64, block: &mut [u8])
     ensures { λ _. ⌜ now (block .exit) ≡ table (length (now (block .entry))) (λ j. bits / 256 ^ j % 256) ⌝ }
 {
+    let count = smaller(8, block.len());
     let mut rest = bits;
     let mut j = 0;
-    while j < block.len() {
+    while j < count {
         block[j] = (rest % 256) as u8;
         rest = rest / 256;
+        j += 1;
+    }
+    while j < block.len() {
+        block[j] = 0;
         j += 1;
     }
 }

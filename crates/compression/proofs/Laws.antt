@@ -86,15 +86,14 @@ unfolding expanded
 expanded-size f last b = length-table 32 _
 
 -- A compression by its parts.
-pub compressed : (f : Family) (last : Bool) (old bytes : List ℕ) {h m w s t : List (List ℕ)} {mix new : List ℕ} →
+pub compressed : (f : Family) (last : Bool) (old bytes : List ℕ) {h m w t : List (List ℕ)} {mix new : List ℕ} →
     h ≡ columns (state f old) → mix ≡ mixed f old bytes → m ≡ columns (state f mix) → w ≡ expanded f last bytes →
-    s ≡ columns (steps f w 32 (fromColumns m)) → t ≡ columns (lastSteps f (fromColumns h) (fromColumns s)) → new ≡ flat f t →
+    t ≡ columns (lastSteps f (fromColumns h) (steps f w 32 (fromColumns m))) → new ≡ flat f t →
     new ≡ compression f last old bytes
 unfolding compression
-compressed f last old bytes h-is mix-is m-is w-is s-is t-is new-is =
+compressed f last old bytes h-is mix-is m-is w-is t-is new-is =
     let start = m-is ∙ ap (λ l. columns (state f l)) mix-is in
-    let ran = s-is ∙ (λ k. columns (steps f (w-is k) 32 (fromColumns (start k)))) in
-    let ended = t-is ∙ (λ k. columns (lastSteps f (fromColumns (h-is k)) (fromColumns (ran k)))) in
+    let ended = t-is ∙ (λ k. columns (lastSteps f (fromColumns (h-is k)) (steps f (w-is k) 32 (fromColumns (start k))))) in
     let begin = state f (mixed f old bytes) in
     new-is ∙ ap (flat f) ended
     ∙ flat-words f (lastSteps f (state f old) (steps f (expanded f last bytes) 32 begin)) (last-sized f (state f old) _)

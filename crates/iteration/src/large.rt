@@ -15,7 +15,7 @@ fn compress_block(
     bytes: &[u8],
     k: usize,
     roots: &[u16; 512],
-    trail: &mut [[u32; 8]; 36],
+    unread: &mut [[u32; 8]; 36],
 )
     requires { ⌜ (128 * k ≤ length (now bytes)) × Roots (now roots) ⌝ }
     ensures { λ _. ⌜ now (state .exit) ≡ compression large false (now (state .entry)) (blockOf large (bitsOf (now (bytes .entry))) k) ⌝ }
@@ -24,9 +24,9 @@ fn compress_block(
     if bytes.len() - at < 128 {
         let mut block = [0u8; 128];
         blocks::fill(bytes, at, &mut block);
-        compression::large::compress(state, &block, roots, false, trail);
+        compression::large::compress(state, &block, roots, false, unread);
     } else {
-        compression::large::compress(state, blocks::part(bytes, at, 128), roots, false, trail);
+        compression::large::compress(state, blocks::part(bytes, at, 128), roots, false, unread);
     }
 }
 
@@ -36,26 +36,26 @@ fn compress_blocks(
     bytes: &[u8],
     count: usize,
     roots: &[u16; 512],
-    trail: &mut [[u32; 8]; 36],
+    unread: &mut [[u32; 8]; 36],
 )
     requires { ⌜ (128 * count < length (now bytes) + 128) × Roots (now roots) ⌝ }
     ensures { λ _. ⌜ now (state .exit) ≡ absorbed large (now (state .entry)) (now (bytes .entry)) count ⌝ }
 {
     let mut k = 0;
     while k < count {
-        compress_block(state, bytes, k, roots, trail);
+        compress_block(state, bytes, k, roots, unread);
         k += 1;
     }
 }
 
 // Compresses the length block of so many bits.
-fn finish(state: &mut [u32; 32], bits: u64, roots: &[u16; 512], trail: &mut [[u32; 8]; 36])
+fn finish(state: &mut [u32; 32], bits: u64, roots: &[u16; 512], unread: &mut [[u32; 8]; 36])
     requires { ⌜ Roots (now roots) ⌝ }
     ensures { λ _. ⌜ now (state .exit) ≡ compression large true (now (state .entry)) (lengthBlock large bits) ⌝ }
 {
     let mut block = [0u8; 128];
     blocks::length_block(bits, &mut block);
-    compression::large::compress(state, &block, roots, true, trail);
+    compression::large::compress(state, &block, roots, true, unread);
 }
 
 // Compresses every whole block of a byte string. What is left is not read.
@@ -64,8 +64,8 @@ pub fn absorb(state: &mut [u32; 32], bytes: &[u8])
 {
     let mut roots = [0u16; 512];
     transform_tables::fill_roots(&mut roots);
-    let mut trail = [[0u32; 8]; 36];
-    compress_blocks(state, bytes, bytes.len() / 128, &roots, &mut trail);
+    let mut unread = [[0u32; 8]; 36];
+    compress_blocks(state, bytes, bytes.len() / 128, &roots, &mut unread);
 }
 
 // Compresses every block of a byte string, the last one filled with zeros, and then the length block of so many bits.
@@ -77,7 +77,7 @@ pub fn conclude(state: &mut [u32; 32], bytes: &[u8], bits: u64)
 {
     let mut roots = [0u16; 512];
     transform_tables::fill_roots(&mut roots);
-    let mut trail = [[0u32; 8]; 36];
-    compress_blocks(state, bytes, (bytes.len() + 127) / 128, &roots, &mut trail);
-    finish(state, bits, &roots, &mut trail);
+    let mut unread = [[0u32; 8]; 36];
+    compress_blocks(state, bytes, (bytes.len() + 127) / 128, &roots, &mut unread);
+    finish(state, bits, &roots, &mut unread);
 }

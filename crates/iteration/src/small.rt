@@ -15,7 +15,7 @@ fn compress_block(
     bytes: &[u8],
     k: usize,
     roots: &[u16; 512],
-    trail: &mut [[u32; 4]; 36],
+    unread: &mut [[u32; 4]; 36],
 )
     requires { ⌜ (64 * k ≤ length (now bytes)) × Roots (now roots) ⌝ }
     ensures { λ _. ⌜ now (state .exit) ≡ compression small false (now (state .entry)) (blockOf small (bitsOf (now (bytes .entry))) k) ⌝ }
@@ -24,9 +24,9 @@ fn compress_block(
     if bytes.len() - at < 64 {
         let mut block = [0u8; 64];
         blocks::fill(bytes, at, &mut block);
-        compression::small::compress(state, &block, roots, false, trail);
+        compression::small::compress(state, &block, roots, false, unread);
     } else {
-        compression::small::compress(state, blocks::part(bytes, at, 64), roots, false, trail);
+        compression::small::compress(state, blocks::part(bytes, at, 64), roots, false, unread);
     }
 }
 
@@ -36,26 +36,26 @@ fn compress_blocks(
     bytes: &[u8],
     count: usize,
     roots: &[u16; 512],
-    trail: &mut [[u32; 4]; 36],
+    unread: &mut [[u32; 4]; 36],
 )
     requires { ⌜ (64 * count < length (now bytes) + 64) × Roots (now roots) ⌝ }
     ensures { λ _. ⌜ now (state .exit) ≡ absorbed small (now (state .entry)) (now (bytes .entry)) count ⌝ }
 {
     let mut k = 0;
     while k < count {
-        compress_block(state, bytes, k, roots, trail);
+        compress_block(state, bytes, k, roots, unread);
         k += 1;
     }
 }
 
 // Compresses the length block of so many bits.
-fn finish(state: &mut [u32; 16], bits: u64, roots: &[u16; 512], trail: &mut [[u32; 4]; 36])
+fn finish(state: &mut [u32; 16], bits: u64, roots: &[u16; 512], unread: &mut [[u32; 4]; 36])
     requires { ⌜ Roots (now roots) ⌝ }
     ensures { λ _. ⌜ now (state .exit) ≡ compression small true (now (state .entry)) (lengthBlock small bits) ⌝ }
 {
     let mut block = [0u8; 64];
     blocks::length_block(bits, &mut block);
-    compression::small::compress(state, &block, roots, true, trail);
+    compression::small::compress(state, &block, roots, true, unread);
 }
 
 // Compresses every whole block of a byte string. What is left is not read.
@@ -64,8 +64,8 @@ pub fn absorb(state: &mut [u32; 16], bytes: &[u8])
 {
     let mut roots = [0u16; 512];
     transform_tables::fill_roots(&mut roots);
-    let mut trail = [[0u32; 4]; 36];
-    compress_blocks(state, bytes, bytes.len() / 64, &roots, &mut trail);
+    let mut unread = [[0u32; 4]; 36];
+    compress_blocks(state, bytes, bytes.len() / 64, &roots, &mut unread);
 }
 
 // Compresses every block of a byte string, the last one filled with zeros, and then the length block of so many bits.
@@ -77,7 +77,7 @@ pub fn conclude(state: &mut [u32; 16], bytes: &[u8], bits: u64)
 {
     let mut roots = [0u16; 512];
     transform_tables::fill_roots(&mut roots);
-    let mut trail = [[0u32; 4]; 36];
-    compress_blocks(state, bytes, (bytes.len() + 63) / 64, &roots, &mut trail);
-    finish(state, bits, &roots, &mut trail);
+    let mut unread = [[0u32; 4]; 36];
+    compress_blocks(state, bytes, (bytes.len() + 63) / 64, &roots, &mut unread);
+    finish(state, bits, &roots, &mut unread);
 }

@@ -1,6 +1,6 @@
 // A step of 8 rows, in two parts, new B and the state from it: a step in one part is too long to be compiled in line. So is new A in one part,
 // and it is made in two halves of 4 rows. With a literal step number every read of the tables folds to a constant.
-// Every step stores the shifted A in its row of `trail`. Nothing reads it: it is there because rows that are stored whole are
+// Every step stores the shifted A in its row of `unread`. Nothing reads it: it is there because rows that are stored whole are
 // kept in vector registers; without it the steps are compiled word by word and take three times as long.
 use step_numbers::large_exchange;
 use step_numbers::rotation;
@@ -64,13 +64,13 @@ fn rotated(a: [u32; 8], r: u32) -> [u32; 8]
 }
 
 // New B in step i.
-pub fn turned(st: [[u32; 8]; 4], i: usize, trail: &mut [[u32; 8]; 36]) -> [u32; 8]
+pub fn turned(st: [[u32; 8]; 4], i: usize, unread: &mut [[u32; 8]; 36]) -> [u32; 8]
     ensures { λ v. ⌜ v ≡ newB large (rotationOf i i) (getD st 0 []) ⌝ }
 {
     let r = rotation(i, i);
     let a = st[0];
     let h = shifted(a, r);
-    trail[i % 36] = h;
+    unread[i % 36] = h;
     rotated(a, r)
 }
 

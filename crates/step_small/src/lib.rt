@@ -1,5 +1,5 @@
 // A step of 4 rows. It takes its numbers as an argument: with a literal step number they fold to constants, and the step is compiled in line.
-// Every step stores the shifted A in its row of `trail`. Nothing reads it: it is there because rows that are stored whole are
+// Every step stores the shifted A in its row of `unread`. Nothing reads it: it is there because rows that are stored whole are
 // kept in vector registers; without it the steps are compiled word by word and take three times as long.
 use step_numbers::StepNumbers;
 use words::blend;
@@ -43,11 +43,11 @@ fn rotated(a: [u32; 4], r: u32) -> [u32; 4]
 }
 
 // New B in step i from A, by the rotation r.
-fn turned(a: [u32; 4], r: u32, i: usize, trail: &mut [[u32; 4]; 36]) -> [u32; 4]
+fn turned(a: [u32; 4], r: u32, i: usize, unread: &mut [[u32; 4]; 36]) -> [u32; 4]
     ensures { λ v. ⌜ v ≡ newB small r a ⌝ }
 {
     let h = shifted(a, r);
-    trail[i % 36] = h;
+    unread[i % 36] = h;
     rotated(a, r)
 }
 
@@ -69,12 +69,12 @@ pub fn step(
     w: &[u32; 4],
     i: usize,
     n: StepNumbers,
-    trail: &mut [[u32; 4]; 36],
+    unread: &mut [[u32; 4]; 36],
 ) -> [[u32; 4]; 4]
     requires { ⌜ (n .r ≡ rotationOf i i) × ((n .s ≡ rotationOf i (i + 1)) × (n .x ≡ exchange small i)) ⌝ }
     ensures { λ v. ⌜ v ≡ stepped small i (now (w .entry)) st ⌝ }
 {
-    let b = turned(st[0], n.r, i, trail);
+    let b = turned(st[0], n.r, i, unread);
     let a = crossed(&st, w, &b, n.s, n.x, i);
     let c = st[1];
     let d = st[2];

@@ -125,16 +125,16 @@ module _ (x t : List ℕ) where
 
       pub rows-lead : Leads l m (λ k q. q * l + k) (λ k q. q * (2 * l) + k) x y × Spreads (2 * half) x y
       rows-lead = (
-          leads (λ k q. q * l + k) (λ k q. q * (2 * l) + k) by-rows,
-          record {
-            within =
-                λ low high before.
-                let after = spread (λ k q. q * l + k) (λ k q. q * (2 * l) + k) by-rows low high
-                (λ k q hk hq. before (q * l + k) (omega (arith, one-more q m l hq))) in
-                λ p h.
-                everywhere (λ p. (low ≤ getD y p 0) × (getD y p 0 ≤ high + 512)) m (2 * l) (λ q k hq hk. after k q hk hq) p (omega arith);
-          },
-        )
+        leads (λ k q. q * l + k) (λ k q. q * (2 * l) + k) by-rows,
+        record {
+          within =
+              λ low high before.
+              let after = spread (λ k q. q * l + k) (λ k q. q * (2 * l) + k) by-rows low high
+              (λ k q hk hq. before (q * l + k) (omega (arith, one-more q m l hq))) in
+              λ p h.
+              everywhere (λ p. (low ≤ getD y p 0) × (getD y p 0 ≤ high + 512)) m (2 * l) (λ q k hq hk. after k q hk hq) p (omega arith);
+        },
+      )
 
     -- The places of a value side by side.
     module _ (size : half ≡ l * m) (done : Done m m half (λ k. k * (2 * m)) (λ k. k * m) (λ k q. l + k + 0 * q) y l) where
@@ -148,12 +148,12 @@ module _ (x t : List ℕ) where
 
       pub columns-lead : Leads l m (λ k q. k * (2 * m) + q) (λ k q. k * m + q) x y × Spreads (2 * half) x y
       columns-lead = (
-          leads (λ k q. k * (2 * m) + q) (λ k q. k * m + q) by-columns,
-          record {
-            within =
-                λ low high before.
-                let after = spread (λ k q. k * (2 * m) + q) (λ k q. k * m + q) by-columns low high
-                (λ k q hk hq. before (k * (2 * m) + q) (omega (arith, one-more k l m hk))) in
-                λ p h. everywhere (λ p. (low ≤ getD y p 0) × (getD y p 0 ≤ high + 512)) (2 * l) m after p (omega arith);
-          },
-        )
+        leads (λ k q. k * (2 * m) + q) (λ k q. k * m + q) by-columns,
+        record {
+          within =
+              λ low high before.
+              let after = spread (λ k q. k * (2 * m) + q) (λ k q. k * m + q) by-columns low high
+              (λ k q hk hq. before (k * (2 * m) + q) (omega (arith, one-more k l m hk))) in
+              λ p h. everywhere (λ p. (low ≤ getD y p 0) × (getD y p 0 ≤ high + 512)) (2 * l) m after p (omega arith);
+        },
+      )

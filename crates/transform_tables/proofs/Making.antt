@@ -21,9 +21,9 @@ fit at first step n = (k : ℕ) → k < n → (first + step * k < 256) × (expon
 pub fit-in : (at first step n : ℕ) → T (below n (λ k. ltb (first + step * k) 256)) → T (below n (λ k. eqb (exponent 7 (at + k)) (first + step * k)))
     → fit at first step n
 fit-in at first step n inside same k h = (
-    ltb→lt (first + step * k) 256 (below-at n (λ k. ltb (first + step * k) 256) inside k h),
-    eqb→eq (exponent 7 (at + k)) (first + step * k) (below-at n (λ k. eqb (exponent 7 (at + k)) (first + step * k)) same k h),
-  )
+  ltb→lt (first + step * k) 256 (below-at n (λ k. ltb (first + step * k) 256) inside k h),
+  eqb→eq (exponent 7 (at + k)) (first + step * k) (below-at n (λ k. eqb (exponent 7 (at + k)) (first + step * k)) same k h),
+)
 
 -- The modulus alone.
 pub begun-none : (t : List ℕ) → length t ≡ 512 → Begun (set t 0 257) 256

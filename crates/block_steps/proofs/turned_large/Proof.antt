@@ -1,7 +1,5 @@
 -- Back by the steps backward, else forward by the steps.
-use mathlib.Core.Path.{ap}
 use borrow.Author.Needs.{needs}
-use Rattle.words.specs.Columns.{fromColumns}
 use Rattle.block_steps.specs.Moved.{turned}
 use Rattle.block_steps.proofs.turned_large.Statement.{statement}
 use Rattle.block_steps.proofs.turned_large.Tie as tie
@@ -12,7 +10,7 @@ returns c = rw (c .before .if1 .taken) (c .unsteps .ensures)
 
 returns-2 : tie.Need-returns-2
 unfolding turned
-returns-2 c = rw (c .before .before .if1 .left) (ap fromColumns (c .steps .ensures))
+returns-2 c = rw (c .before .if1 .left) (c .steps .ensures)
 
 pub turned-large-spec : {M : Type 1} → statement M
 turned-large-spec = tie.close (tie.spec (λ c κs. search needs) returns (λ c κs. search needs) returns-2)

@@ -1,4 +1,4 @@
--- New B is A rotated by the rotation of step i; the store to `trail` leaves it.
+-- New B is A rotated by the rotation of step i; the store to `unread` leaves it.
 use mathlib.Core.List.{[]}
 use mathlib.Core.Path.{ap, _∙_}
 use lib.ListN.{getD}
