@@ -2,7 +2,6 @@
 use transform_stages::begin;
 use transform_stages::columns;
 use transform_stages::finish;
-use transform_stages::last_row;
 use transform_stages::rows;
 use transform_stages::shuffle;
 ghost use mathlib.Core.Path.{_≡_};
@@ -85,6 +84,6 @@ pub fn large(block: &[u8], roots: &[u16; 512], out: &mut [u16], last: bool)
     rows(&x, &mut y, roots, 16, 8, 128);
     rows(&y, &mut x, roots, 32, 4, 128);
     rows(&x, &mut y, roots, 64, 2, 128);
-    last_row(&y, &mut x, roots);
+    rows(&y, &mut x, roots, 128, 1, 128);
     finish_large(&x, out, last);
 }

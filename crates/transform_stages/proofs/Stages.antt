@@ -2,9 +2,8 @@
 use mathlib.Core.List.{List}
 use mathlib.Core.Logic.{⊎-elim}
 use mathlib.Core.Path.{_≡_, sym, ap, _∙_, subst}
-use Prim.Native.Nat.{ℕ, zero, suc, _+_, _*_, _-_, _/_, _%_, _^_, _<_, _≤_}
+use Prim.Native.Nat.{ℕ, zero, suc, _+_, _*_, _/_, _%_, _^_, _<_, _≤_}
 use native.Mathlib.Nat.{pow-suc, mul-le-mul-right, suc-mul, mul-zero, eq-or-lt-of-le, div-add-mod', div-lt-iff-lt-mul, mod-lt}
-use native.Mathlib.Decide.{decLt}
 use native.Mathlib.Omega.{arith}
 use lib.ListN.{getD}
 use lib.Pow.{pow-pos}
@@ -64,24 +63,6 @@ module _ (x t : List ℕ) where
       (sym e) (here i hi))
       (λ below. rw (kept o i below hi .0, kept o i below hi .1) (done o i below hi))
       (eq-or-lt-of-le {n = o} {m = n} (omega arith))
-
-  -- All butterflies of the last stage of the large family, done in two parts.
-  pub two-parts : (y y′ : List ℕ)
-      → ((k : ℕ) → k < 64 → Butterfly (getD x (0 + k) 0) (getD t (128 + 1 * k) 0) (getD x (0 + 128 + k) 0) (getD y (0 + k) 0) (getD y (0 + 128 + k) 0))
-      → ((k : ℕ) → k < 64
-      → Butterfly (getD x (64 + k) 0) (getD t (192 + 1 * k) 0) (getD x (64 + 128 + k) 0) (getD y′ (64 + k) 0) (getD y′ (64 + 128 + k) 0))
-      → ((p : ℕ) → p < 64 + 128 → (64 ≤ p → 64 + 64 ≤ p) → getD y′ p 0 ≡ getD y p 0)
-      → Done 128 128 128 (λ q. q * 128) (λ q. q * (2 * 128)) (λ q k. 128 + 1 * k) y′ 1
-  two-parts y y′ low high kept (suc o) i ho hi = absurd (omega arith)
-  two-parts y y′ low high kept zero i ho hi =
-      elim (decLt i 64) [
-        | yes less ↦ rw (kept (0 + i) (omega arith) (λ from. omega arith), kept (0 + 128 + i) (omega arith) (λ from. omega arith)) (low i less)
-        | no past ↦
-            let near : 64 + (i - 64) ≡ 0 + i = omega arith in
-            let factor : 192 + 1 * (i - 64) ≡ 128 + 1 * i = omega arith in
-            let far : 64 + 128 + (i - 64) ≡ 0 + 128 + i = omega arith in
-            rw (near, factor, far) at (high (i - 64) (omega arith))
-      ]
 
   module _ (l m half : ℕ) (y : List ℕ) (roots : Roots t) where
     -- All butterflies of a stage, by value k and part q.

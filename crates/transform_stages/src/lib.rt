@@ -122,17 +122,6 @@ pub fn rows(x: &[u16], y: &mut [u16], t: &[u16], l: usize, m: usize, half: usize
     }
 }
 
-// The last stage of the large family: `rows` from 128 values at each of 2 places, in two parts of as many turns as the compiler unrolls.
-pub fn last_row(x: &[u16], y: &mut [u16], t: &[u16])
-    requires { ⌜ (length (now x) ≡ 256) × (length (now y) ≡ 256) ⌝ }
-    requires { ⌜ Roots (now t) × Within 256 512 60000 (now x) ⌝ }
-    ensures { λ r. ⌜ Leads 128 1 (λ k q. q * 128 + k) (λ k q. q * 256 + k) (now (x .entry)) (now (y .exit)) ⌝ }
-    ensures { λ r. ⌜ Spreads 256 (now (x .entry)) (now (y .exit)) ⌝ }
-{
-    butterflies(x, y, t, 0, 128, 0, 128, 128, 1, 64);
-    butterflies(x, y, t, 64, 128, 64, 128, 192, 1, 64);
-}
-
 // The added constants and the remainder modulo 257 at 128 places more: a loop of as many turns as the compiler unrolls.
 fn more_finished(x: &[u16], added: &[u16], out: &mut [u16], at: usize)
     requires { ⌜ (at + 128 ≤ length (now x)) × (length (now added) ≡ length (now x)) × (length (now out) ≡ length (now x)) ⌝ }

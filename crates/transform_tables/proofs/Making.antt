@@ -7,7 +7,7 @@ use native.Mathlib.Omega.{arith}
 use native.Mathlib.Decide.{decLt}
 use lib.Dec.{T, eqb, eqb→eq, ltb, ltb→lt}
 use lib.ListN.{length, getD, set, length-set}
-use lib.Seq.{getD-set-same}
+use lib.Seq.{getD-set-same, getD-set-other}
 use Rattle.simd.specs.Expansion.{power}
 use Rattle.laws.proofs.Below.{below, below-at}
 use Rattle.laws.proofs.Field.{power-lt}
@@ -25,12 +25,12 @@ fit-in at first step n inside same k h = (
   eqb→eq (exponent 7 (at + k)) (first + step * k) (below-at n (λ k. eqb (exponent 7 (at + k)) (first + step * k)) same k h),
 )
 
--- The modulus alone.
-pub begun-none : (t : List ℕ) → length t ≡ 512 → Begun (set t 0 257) 256
+-- The modulus, and a number that no one reads.
+pub begun-none : (t : List ℕ) → length t ≡ 512 → Begun (set (set t 0 257) 256 65535) 256
 begun-none t size =
     record {
-      size = omega (arith, length-set t 0 257);
-      modulus = getD-set-same t 0 257 0 (omega arith);
+      size = omega (arith, length-set (set t 0 257) 256 65535, length-set t 0 257);
+      modulus = getD-set-other (set t 0 257) 256 0 65535 0 (λ e. omega arith) ∙ getD-set-same t 0 257 0 (omega arith);
       entry = λ j from below. absurd (omega arith);
       scaled = λ j from below. absurd (omega arith);
     }

@@ -1096,13 +1096,15 @@ fn row(powers: &[u16; 256], t: &mut [u16], at: usize, first: usize, step: usize,
 }
 
 // Makes the table of roots in a lent array: an array that is handed back is copied once more. Each call has at most 32 turns, which the
-// compiler unrolls: then all entries are constants, and the whole table is stored in one piece.
+// compiler unrolls: then all entries are constants, and the whole table is stored in one piece. Nothing reads entry 256: it is stored so that
+// the array need not be zeroed.
 pub fn fill_roots(t: &mut [u16])
     requires { ⌜ length (now t) ≡ 512 ⌝ }
     ensures { λ r. ⌜ Roots (now (t .exit)) ⌝ }
 {
     let p = powers();
     t[0] = 257;
+    t[256] = 65535;
     row(&p, t, 224, 96, 1, 32);
     row(&p, t, 192, 64, 1, 32);
     row(&p, t, 160, 32, 1, 32);

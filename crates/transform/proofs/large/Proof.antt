@@ -37,8 +37,8 @@ start-rows3 c = start-rows2 (c .before .before .before .before .before)
 abbrev start-rows4 : tie.After-rows4 → tie.Start
 start-rows4 c = start-rows3 (c .before .before .before .before .before)
 
-abbrev start-last : tie.After-last-row → tie.Start
-start-last c = start-rows4 (c .before .before .before .before .before)
+abbrev start-rows5 : tie.After-rows5 → tie.Start
+start-rows5 c = start-rows4 (c .before .before .before .before .before)
 
 -- Between which bounds the numbers lie after each call.
 within-begin : (c : tie.After-begin) → Within 256 3598 3853 (c .begin .last .1 .0)
@@ -73,8 +73,8 @@ within-rows3 c = c .rows3 .ensures .1 .within 1038 5901 (within-rows2 (c .before
 within-rows4 : (c : tie.After-rows4) → Within 256 526 6925 (c .rows4 .last .1 .0)
 within-rows4 c = c .rows4 .ensures .1 .within 526 6413 (within-rows3 (c .before .before .before .before .before))
 
-within-last-row : (c : tie.After-last-row) → Within 256 14 7437 (c .last-row .last .1 .0)
-within-last-row c = c .last-row .ensures .1 .within 14 6925 (within-rows4 (c .before .before .before .before .before))
+within-rows5 : (c : tie.After-rows5) → Within 256 14 7437 (c .rows5 .last .1 .0)
+within-rows5 c = c .rows5 .ensures .1 .within 14 6925 (within-rows4 (c .before .before .before .before .before))
 
 columns-requires : tie.Need-columns-requires
 columns-requires c κs =
@@ -112,22 +112,22 @@ rows-requires-4 c κs =
     let bounds = loosened 256 1038 6413 (level .rows3 .last .1 .0) (within-rows3 level) (omega arith) (omega arith) in
     ((refl, omega arith, omega arith), (omega arith, omega arith, start-rows3 level .pre .1, bounds))
 
-last-row-requires : tie.Need-last-row-requires
-last-row-requires c κs =
+rows-requires-5 : tie.Need-rows-requires-5
+rows-requires-5 c κs =
     let level = c .before .before .before .before in
     let bounds = loosened 256 526 6925 (level .rows4 .last .1 .0) (within-rows4 level) (omega arith) (omega arith) in
-    ((omega arith, omega arith), (start-rows4 level .pre .1, bounds))
+    ((refl, omega arith, omega arith), (omega arith, omega arith, start-rows4 level .pre .1, bounds))
 
 finish-requires : tie.Need-finish-large-requires
 finish-requires c κs =
     let level = c .before .before .before in
-    ((omega arith, start-last level .pre .0 .1), under 256 14 7437 (level .last-row .last .1 .0) (within-last-row level) (omega arith))
+    ((omega arith, start-rows5 level .pre .0 .1), under 256 14 7437 (level .rows5 .last .1 .0) (within-rows5 level) (omega arith))
 
 returns : tie.Need-returns
 returns c =
     let finish = c .before .before in
-    let last = finish .before .before .before .before in
-    let rows4 = last .before .before .before .before .before in
+    let rows5 = finish .before .before .before .before in
+    let rows4 = rows5 .before .before .before .before .before in
     let rows3 = rows4 .before .before .before .before .before in
     let rows2 = rows3 .before .before .before .before .before in
     let rows = rows2 .before .before .before .before .before in
@@ -143,7 +143,7 @@ returns c =
     (shuffle .shuffle .ensures) (shuffle2 .shuffle2 .ensures) (shuffle3 .shuffle3 .ensures) in
     let most = level-128 (bytes b) 2 eight (rows .rows .ensures .0) (rows2 .rows2 .ensures .0) (rows3 .rows3 .ensures .0)
     (rows4 .rows4 .ensures .0) in
-    let all = last .last-row .ensures .0 .next (bytes b) 0 refl most in
+    let all = rows5 .rows5 .ensures .0 .next (bytes b) 0 refl most in
     transformed large (start .args .last) b 1 128 256 (refl, start .pre .0 .0, refl) (λ k. ap (power 41) (sym (one-mul k))) all
     (omega (arith, finish .finish-large .kept .1 .0, start .pre .0 .1)) (finish .finish-large .ensures)
 
@@ -155,4 +155,4 @@ large-spec =
     (λ c. search needs) (λ c. search needs) (λ c κs. search needs) (λ c. search needs) (λ c. search needs) (λ c κs. search needs)
     (λ c. search needs) (λ c. search needs) rows-requires (λ c. search needs) (λ c. search needs) rows-requires-2
     (λ c. search needs) (λ c. search needs) rows-requires-3 (λ c. search needs) (λ c. search needs) rows-requires-4
-    (λ c. search needs) (λ c. search needs) last-row-requires (λ c. search needs) finish-requires (λ c. search needs) returns)
+    (λ c. search needs) (λ c. search needs) rows-requires-5 (λ c. search needs) finish-requires (λ c. search needs) returns)

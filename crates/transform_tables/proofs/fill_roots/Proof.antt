@@ -114,6 +114,6 @@ returns c = let last = c .before .before in roots-made (last .row12 .last .1 .0)
 pub fill-roots-spec : {M : Type 1} → statement M
 fill-roots-spec =
     tie.close
-    (tie.spec (λ c κs. search needs) (λ c. search needs) row-requires row-requires-2 row-requires-3 row-requires-4 row-requires-5 row-requires-6
-    row-requires-7 row-requires-8 row-requires-9 row-requires-10 row-requires-11 row-requires-12
+    (tie.spec (λ c κs. search needs) (λ c. search needs) (λ c. search needs) row-requires row-requires-2 row-requires-3 row-requires-4 row-requires-5
+    row-requires-6 row-requires-7 row-requires-8 row-requires-9 row-requires-10 row-requires-11 row-requires-12
     same-length returns)
