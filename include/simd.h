@@ -182,15 +182,15 @@ extern "C" {
    what the machine code can need at all; the library's tests do both again
    (tests/c/stack.c, tests/c/frames.py). */
 #define SIMD_STACK_OPEN 1536
-#define SIMD_STACK_FEED 11264
-#define SIMD_STACK_TAKE 10752
-#define SIMD_STACK_HASH 9216
-#define SIMD_STACK_EXPAND 6144
-#define SIMD_STACK_STEPS 7680
-#define SIMD_STACK_UNSTEPS 7680
-#define SIMD_STACK_COMPARE 9216
-#define SIMD_STACK_TAPE 11776
-#define SIMD_STACK_MAX 11776    /* of all calls */
+#define SIMD_STACK_FEED 10240
+#define SIMD_STACK_TAKE 9216
+#define SIMD_STACK_HASH 7680
+#define SIMD_STACK_EXPAND 4864
+#define SIMD_STACK_STEPS 5632
+#define SIMD_STACK_UNSTEPS 5632
+#define SIMD_STACK_COMPARE 8192
+#define SIMD_STACK_TAPE 10240
+#define SIMD_STACK_MAX 10240    /* of all calls */
 
 /* REFUSALS */
 
