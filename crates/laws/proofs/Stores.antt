@@ -81,16 +81,6 @@ fresh-halves n fits h =
       earlier = λ j below. ((λ e. omega arith), (λ e. omega arith), (λ e. omega arith), (λ e. omega arith));
     }
 
--- Even and odd places.
-pub fresh-turns : (n : ℕ) {size k : ℕ} → 2 * n ≤ size → k < n → Fresh (λ k. 2 * k) (λ k. 2 * k + 1) size k
-fresh-turns n fits h =
-    record {
-      fits-u = omega arith;
-      fits-v = omega arith;
-      apart = λ e. omega arith;
-      earlier = λ j below. ((λ e. omega arith), (λ e. omega arith), (λ e. omega arith), (λ e. omega arith));
-    }
-
 -- One number a turn: after k turns g j stands at u j for each earlier turn j, and all other places are as they were.
 pub record Filled (g u : ℕ → ℕ) (y₀ y : List ℕ) (k : ℕ) : Type 0 where
   pub size : length y ≡ length y₀

@@ -4,7 +4,7 @@
 // kept in vector registers; without it the steps are compiled word by word and take three times as long.
 use step_numbers::large_exchange;
 use step_numbers::rotation;
-use words::blend;
+use words::step_sum;
 use words::left;
 use words::rotated_plus;
 use words::turn;
@@ -31,7 +31,7 @@ fn row(st: &[[u32; 8]; 4], w: &[u32; 8], b: &[u32; 8], s: u32, x: usize, i: usiz
 {
     let y = partner(j, x);
     let u = b[y];
-    rotated_plus(blend(i, st[0][j], st[1][j], st[2][j], st[3][j], w[j]), s, u)
+    rotated_plus(step_sum(i, st[0][j], st[1][j], st[2][j], st[3][j], w[j]), s, u)
 }
 
 // A shifted by r, and rotated by r.
@@ -96,7 +96,7 @@ fn half(
 }
 
 // New A in step i from new B, by the rotation s and the row exchange x.
-fn crossed(st: [[u32; 8]; 4], w: &[u32; 8], b: [u32; 8], s: u32, x: usize, i: usize) -> [u32; 8]
+fn new_a(st: [[u32; 8]; 4], w: &[u32; 8], b: [u32; 8], s: u32, x: usize, i: usize) -> [u32; 8]
     ensures { λ v. ⌜ v ≡ newA large i s x (now (w .entry)) b st ⌝ }
 {
     let l = half(st, w, b, s, x, i, 0);
@@ -109,7 +109,7 @@ pub fn mixed(st: [[u32; 8]; 4], w: &[u32; 8], b: [u32; 8], i: usize) -> [[u32; 8
     requires { ⌜ b ≡ newB large (rotationOf i i) (getD st 0 []) ⌝ }
     ensures { λ v. ⌜ v ≡ stepped large i (now (w .entry)) st ⌝ }
 {
-    let a = crossed(st, w, b, rotation(i, i % 4 + 1), large_exchange(i), i);
+    let a = new_a(st, w, b, rotation(i, i % 4 + 1), large_exchange(i), i);
     let c = st[1];
     let d = st[2];
     [a, b, c, d]

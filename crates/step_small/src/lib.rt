@@ -2,7 +2,7 @@
 // Every step stores the shifted A in its row of `unread`. Nothing reads it: it is there because rows that are stored whole are
 // kept in vector registers; without it the steps are compiled word by word and take three times as long.
 use step_numbers::StepNumbers;
-use words::blend;
+use words::step_sum;
 use words::left;
 use words::rotated_plus;
 use words::turn;
@@ -28,7 +28,7 @@ fn row(st: &[[u32; 4]; 4], w: &[u32; 4], b: &[u32; 4], s: u32, x: usize, i: usiz
 {
     let y = partner(j, x);
     let u = b[y];
-    rotated_plus(blend(i, st[0][j], st[1][j], st[2][j], st[3][j], w[j]), s, u)
+    rotated_plus(step_sum(i, st[0][j], st[1][j], st[2][j], st[3][j], w[j]), s, u)
 }
 
 // A shifted by r, and rotated by r.
@@ -52,7 +52,7 @@ fn turned(a: [u32; 4], r: u32, i: usize, unread: &mut [[u32; 4]; 36]) -> [u32; 4
 }
 
 // New A in step i from new B, by the rotation s and the row exchange x.
-fn crossed(st: &[[u32; 4]; 4], w: &[u32; 4], b: &[u32; 4], s: u32, x: usize, i: usize) -> [u32; 4]
+fn new_a(st: &[[u32; 4]; 4], w: &[u32; 4], b: &[u32; 4], s: u32, x: usize, i: usize) -> [u32; 4]
     ensures { λ v. ⌜ v ≡ newA small i s x (now (w .entry)) (now (b .entry)) (now (st .entry)) ⌝ }
 {
     [
@@ -75,7 +75,7 @@ pub fn step(
     ensures { λ v. ⌜ v ≡ stepped small i (now (w .entry)) st ⌝ }
 {
     let b = turned(st[0], n.r, i, unread);
-    let a = crossed(&st, w, &b, n.s, n.x, i);
+    let a = new_a(&st, w, &b, n.s, n.x, i);
     let c = st[1];
     let d = st[2];
     [a, b, c, d]

@@ -69,7 +69,7 @@ pub fn chosen(i: usize, a: u32, b: u32, c: u32) -> u32
 }
 
 // The sum of D, the word and the Boolean function of step i.
-pub fn blend(i: usize, a: u32, b: u32, c: u32, d: u32, w: u32) -> u32
+pub fn step_sum(i: usize, a: u32, b: u32, c: u32, d: u32, w: u32) -> u32
     ensures { λ v. ⌜ v ≡ add (add d w) (choose i a b c) ⌝ }
 {
     sum(sum(d, w), chosen(i, a, b, c))

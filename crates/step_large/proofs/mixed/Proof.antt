@@ -13,7 +13,7 @@ returns c =
     let start = read .before .before in
     let p = start .args in
     let s-is = read .before .rotation .ensures .0 ∙ next-rotation (p .i) in
-    stepped-parts large (p .i) (p .w .now) (p .t1) (start .pre) s-is (read .large-exchange .ensures) (c .before .before .crossed .ensures)
+    stepped-parts large (p .i) (p .w .now) (p .t1) (start .pre) s-is (read .large-exchange .ensures) (c .before .before .new-a .ensures)
 
 pub mixed-spec : {M : Type 1} → statement M
 mixed-spec =

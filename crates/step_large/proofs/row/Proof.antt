@@ -1,4 +1,4 @@
--- The rotated blend plus the word of the partner row: word j of new A.
+-- The rotated sum plus the word of the partner row: word j of new A.
 use mathlib.Core.Path.{_∙_}
 use Prim.Native.Nat.{_%_}
 use lib.ListN.{getD}
@@ -9,7 +9,7 @@ use Rattle.step_large.proofs.row.Tie as tie
 
 returns : tie.Need-returns
 returns c =
-    let sum = c .before .blend in
+    let sum = c .before .step-sum in
     let read = c .before .before .before .before .before .before in
     let first = read .before .before in
     let p = first .before .args in

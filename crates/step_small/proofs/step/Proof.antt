@@ -15,7 +15,7 @@ returns c =
     let start = made .before .before .before in
     let p = start .args in
     let b-is = made .turned .ensures ∙ ap (λ r. newB small r (getD (p .t1) 0 [])) (start .pre .0) in
-    stepped-parts small (p .i) (p .w .now) (p .t1) b-is (start .pre .1 .0) (start .pre .1 .1) (c .before .before .crossed .ensures)
+    stepped-parts small (p .i) (p .w .now) (p .t1) b-is (start .pre .1 .0) (start .pre .1 .1) (c .before .before .new-a .ensures)
 
 pub step-spec : {M : Type 1} → statement M
 step-spec =

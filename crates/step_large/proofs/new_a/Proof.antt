@@ -3,8 +3,8 @@ use Rattle.words.specs.Columns.{newA, wordA}
 use Rattle.simd.specs.Basic.{large}
 use Rattle.step_large.proofs.Halves.{halves}
 use borrow.Author.Needs.{needs}
-use Rattle.step_large.proofs.crossed.Statement.{statement}
-use Rattle.step_large.proofs.crossed.Tie as tie
+use Rattle.step_large.proofs.new_a.Statement.{statement}
+use Rattle.step_large.proofs.new_a.Tie as tie
 
 returns : tie.Need-returns
 unfolding newA
@@ -12,8 +12,8 @@ returns c =
     let p = c .before .before .args in
     halves (wordA large (p .i) (p .s) (p .x) (p .w .now) (p .b) (p .st)) (c .before .half .ensures) (c .half2 .ensures)
 
-pub crossed-spec : {M : Type 1} → statement M
-crossed-spec =
+pub new-a-spec : {M : Type 1} → statement M
+new-a-spec =
     tie.close
     (tie.spec (λ c κs. search needs) (λ c κs. search needs) (λ c. search needs) (λ c. search needs) (λ c. search needs) (λ c. search needs)
     (λ c. search needs) (λ c. search needs) (λ c. search needs) (λ c. search needs) returns)
