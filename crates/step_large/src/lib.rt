@@ -4,9 +4,9 @@
 // kept in vector registers; without it the steps are compiled word by word and take three times as long.
 use step_numbers::large_exchange;
 use step_numbers::rotation;
-use words::step_sum;
 use words::left;
 use words::rotated_plus;
+use words::step_sum;
 use words::turn;
 ghost use mathlib.Core.List.{[]};
 ghost use mathlib.Core.Path.{_≡_};
@@ -31,7 +31,11 @@ fn row(st: &[[u32; 8]; 4], w: &[u32; 8], b: &[u32; 8], s: u32, x: usize, i: usiz
 {
     let y = partner(j, x);
     let u = b[y];
-    rotated_plus(step_sum(i, st[0][j], st[1][j], st[2][j], st[3][j], w[j]), s, u)
+    rotated_plus(
+        step_sum(i, st[0][j], st[1][j], st[2][j], st[3][j], w[j]),
+        s,
+        u,
+    )
 }
 
 // A shifted by r, and rotated by r.

@@ -2,9 +2,9 @@
 // Every step stores the shifted A in its row of `unread`. Nothing reads it: it is there because rows that are stored whole are
 // kept in vector registers; without it the steps are compiled word by word and take three times as long.
 use step_numbers::StepNumbers;
-use words::step_sum;
 use words::left;
 use words::rotated_plus;
+use words::step_sum;
 use words::turn;
 ghost use mathlib.Core.Path.{_≡_};
 ghost use Prim.Native.Nat.{_+_, _<_, _%_};
@@ -28,7 +28,11 @@ fn row(st: &[[u32; 4]; 4], w: &[u32; 4], b: &[u32; 4], s: u32, x: usize, i: usiz
 {
     let y = partner(j, x);
     let u = b[y];
-    rotated_plus(step_sum(i, st[0][j], st[1][j], st[2][j], st[3][j], w[j]), s, u)
+    rotated_plus(
+        step_sum(i, st[0][j], st[1][j], st[2][j], st[3][j], w[j]),
+        s,
+        u,
+    )
 }
 
 // A shifted by r, and rotated by r.
