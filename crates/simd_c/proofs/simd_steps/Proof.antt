@@ -4,7 +4,7 @@ use Rattle.simd_c.proofs.simd_steps.Statement.{statement}
 use Rattle.simd_c.proofs.simd_steps.Tie as tie
 
 returns : tie.Need-returns
-returns c = c .before .before .run-steps .ensures
+returns c = search needs
 
 pub simd-steps-spec : {M : Type 1} → statement M
 simd-steps-spec = tie.close (tie.spec (λ c κs. search needs) (λ c. search needs) returns)
