@@ -16,6 +16,7 @@ use Rattle.hash.specs.declared.Hash.{Hash}
 use Rattle.hash.specs.declared.Opened.{Opened}
 use Rattle.hash.specs.declared.Fed.{Fed}
 use Rattle.hash.proofs.Feeding.{Whole, fed-whole, length-message, bits-message, at-widths}
+use Rattle.hash_theorems.proofs.Held.{long}
 use Rattle.hash_theorems.proofs.Advanced.{advanced-append, advanced-none}
 use Rattle.hash_theorems.proofs.Theorems.{open-known, first, first-sized, first-legal, after-width, after-bits, after-legal}
 use Rattle.commands.specs.Effect.{feeding}
@@ -77,7 +78,7 @@ module _ {width : ℕ} {m : List ℕ} {hash : Hash} (s : Stands width m hash) wh
             same =
                 ap (λ (a : Fed). a .hash) accepted
                 ∙ ap (λ (h : Hash). advanced h (message piece count)) (s .same)
-                ∙ advanced-append (first width) (first-sized width (s .known)) m (message piece count) (s .bits);
+                ∙ advanced-append (first width) (long (first-sized width (s .known))) m (message piece count) (s .bits);
           },
         )
 

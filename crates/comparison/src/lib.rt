@@ -22,20 +22,6 @@ ghost use Rattle.pairs.specs.Answer.{verdict, answer};
 ghost use Rattle.pairs.specs.Used.{Used};
 ghost use Rattle.comparison.specs.Shared.{Shared};
 
-// Whether two blocks are equal. All bytes are read, with no early end, so that the loop becomes vector code.
-fn same_block(x: &[u8], y: &[u8]) -> bool
-    requires { ⌜ length (now x) ≡ length (now y) ⌝ }
-    ensures { λ r. ⌜ r ≡ equal (now (x .entry)) (now (y .entry)) ⌝ }
-{
-    let mut seen = 0u8;
-    let mut i = 0;
-    while i < x.len() {
-        seen = seen | (x[i] ^ y[i]);
-        i += 1;
-    }
-    seen == 0
-}
-
 // The bytes of the leading blocks that are equal in both.
 fn shared(width: u16, x: &[u8], y: &[u8]) -> usize
     ensures { λ r. ⌜ Shared (familyOf width) (now (x .entry)) (now (y .entry)) r ⌝ }
@@ -45,7 +31,7 @@ fn shared(width: u16, x: &[u8], y: &[u8]) -> usize
     let mut at = 0;
     while size <= end - at {
         let next = at + size;
-        if !same_block(&x[at..next], &y[at..next]) {
+        if !constant_time::same_block(&x[at..next], &y[at..next]) {
             return at;
         }
         at = next;

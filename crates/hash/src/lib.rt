@@ -12,7 +12,7 @@ ghost use Rattle.hash.specs.Open.{holding, openAnswer, pieceRefusal, fee
 ghost use Rattle.hash.specs.Form.{formOf, storeRefusal, storeAnswer, restoreAnswer};
 
 // The longest message, in bits.
-const LIMIT: u64 = 4294967295;
+pub const LIMIT: u64 = 4294967295;
 
 // The words past the family's state and the bits past the tail are 0.
 pub struct Hash {
@@ -76,7 +76,8 @@ fn feed_refusal(width: u16, bits: u64, state: &[u32], tail: &[u8], piece: &[u8],
     }
 }
 
-fn zero_hash() -> Hash
+// The hash that is none, in a refused answer.
+pub fn zero_hash() -> Hash
     ensures { λ r. ⌜ r ≡ holding 0 0 [] [] ⌝ }
 {
     Hash {

@@ -21,7 +21,7 @@ use Rattle.bits.specs.Zero.{padded}
 use Rattle.hash.specs.Open.{family, used, reached, pending, holding, legal, fullBlocks, advanced, finalOf}
 use Rattle.hash.specs.declared.Hash.{Hash}
 use Rattle.hash.proofs.Holding.{Sized, length-reached, legal-width}
-use Rattle.hash_theorems.proofs.Held.{length-pending, bits-pending, held-state, held-tail, held-legal, holds}
+use Rattle.hash_theorems.proofs.Held.{Long, length-pending, bits-pending, held-state, held-tail, held-legal, holds}
 
 -- Full blocks and the rest: n bits before, of which n % block size are in the tail, and l more.
 pub rest-bits : (f : Family) (n l : ℕ) → n % blockBits f + l - blockBits f * ((n % blockBits f + l) / blockBits f) ≡ (n + l) % blockBits f
@@ -52,7 +52,7 @@ held-sized width n state tail bit =
       | no past ↦ rw (List·getD-eq-default (table 128 (byteOf tail)) 0 {n = i} (omega (arith, length-table 128 (byteOf tail)))) (lit< tt)
     ]
 
-module _ (h : Hash) (s : Sized h) (m : List ℕ) where
+module _ (h : Hash) (s : Long h) (m : List ℕ) where
   pub joined-length : length (pending h ++ m) ≡ used h + length m
   joined-length = omega (arith, length-append (pending h) m, length-pending h (s .bytes))
 
@@ -106,7 +106,7 @@ holding-path : (width n n′ : ℕ) (s s′ t t′ : List ℕ) → n ≡ n′ �
 holding-path width n n′ s s′ t t′ p q r = λ i. holding width (p i) (q i) (r i)
 
 -- Feeding bits and then more bits is feeding them joined.
-module _ (h : Hash) (s : Sized h) (m n : List ℕ) (bit : Bits m) where
+module _ (h : Hash) (s : Long h) (m n : List ℕ) (bit : Bits m) where
   front : blockBits (family h) * fullBlocks h (length m) ≤ length (pending h ++ m)
   unfolding fullBlocks
   front = omega (arith, full-within (family h) (used h + length m), joined-length h s m)
@@ -156,7 +156,7 @@ mod-used small n l = omega arith
 mod-used large n l = omega arith
 
 -- The message blocks of the tail and m together.
-pub message-blocks : (h : Hash) → Sized h → (m : List ℕ)
+pub message-blocks : (h : Hash) → Long h → (m : List ℕ)
     → messageBlocks (family h) (length (pending h ++ m))
     ≡ fullBlocks h (length m) + messageBlocks (family h) ((h .bits + length m) % blockBits (family h))
 unfolding fullBlocks
@@ -164,7 +164,7 @@ message-blocks h s m =
     rw (joined-length h s m, ← mod-used (family h) (h .bits) (length m)) (blocks-split (family h) (used h + length m))
 
 -- The state after the last message block and the length block, from the state and the tail before m.
-pub final-advanced : (h : Hash) → Sized h → (m : List ℕ) → Bits m
+pub final-advanced : (h : Hash) → Long h → (m : List ℕ) → Bits m
     → finalOf (advanced h m)
     ≡ compression (family h) true (chain (family h) (reached h) (pending h ++ m) (messageBlocks (family h) (length (pending h ++ m))))
     (lengthBlock (family h) (h .bits + length m))

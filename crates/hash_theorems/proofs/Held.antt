@@ -18,6 +18,14 @@ use Rattle.hash.specs.declared.Hash.{Hash}
 use Rattle.bits.proofs.Zeros.{clear-of, take-padded, padded-past, padded-take}
 use Rattle.hash.proofs.Holding.{Sized, legal-state, legal-tail}
 
+-- The lengths of its arrays: all that bits fed and the length of its form ask of a hash.
+pub record Long (h : Hash) : Type 0 where
+  pub words : length (h .state) ≡ 32
+  pub bytes : length (h .tail) ≡ 128
+
+pub long : {h : Hash} → Sized h → Long h
+long s = record { words = s .words; bytes = s .bytes }
+
 pub length-pending : (h : Hash) → length (h .tail) ≡ 128 → length (pending h) ≡ used h
 unfolding pending
 length-pending h long =

@@ -23,6 +23,7 @@ use Rattle.bits.proofs.Zeros.{clear-at, clear-of, take-padded, padded-past, pad
 use Rattle.tail.proofs.Sizes.{words-within, bytes-within, block-within}
 use Rattle.bits.proofs.Zeros.{bytes-past}
 use Rattle.hash_parts.proofs.Accepted.{Accepted}
+use Rattle.hash_theorems.proofs.Held.{Long, long}
 use Rattle.hash.proofs.Holding.{Value, length-reached, legal-width, legal-state, legal-tail}
 
 -- Byte strings with the same bytes, and zeros after them, are clear from the same places on.
@@ -68,7 +69,7 @@ module _ (a b s t : List ℕ) (z : ℕ) (two : length a ≡ 2) (four : length b 
   four-parts = omega (arith, length-append (a ++ b ++ s) t, length-append (a ++ b) s, length-append a b)
 
 -- Stored and restored.
-module _ (h : Hash) (v : Value h) (good : legal h ≡ true) where
+module _ (h : Hash) where
   abbrev size : ℕ
   size = blockBytes (family h)
 
@@ -85,84 +86,89 @@ module _ (h : Hash) (v : Value h) (good : legal h ≡ true) where
   abbrev tail-part : List ℕ
   tail-part = take (blockBytes (family h)) (h .tail)
 
-  block-bytes : length state-part ≡ size
-  block-bytes = omega (arith, length-bytesOf (reached h), length-reached h (v .sized .words))
+  module _ (l : Long h) where
+    block-bytes : length state-part ≡ size
+    block-bytes = omega (arith, length-bytesOf (reached h), length-reached h (l .words))
 
-  tail-bytes : length tail-part ≡ size
-  tail-bytes = omega (arith, length-take size (h .tail), v .sized .bytes, bytes-within (family h))
+    tail-bytes : length tail-part ≡ size
+    tail-bytes = omega (arith, length-take size (h .tail), l .bytes, bytes-within (family h))
 
-  form-width : formWidth (formOf h) ≡ h .width
-  unfolding formWidth formOf
-  form-width =
-      rw (
-        append-assoc (width-part ++ bits-part) state-part tail-part,
-        append-assoc width-part bits-part (state-part ++ tail-part),
-      )
-      (number-written 2 (h .width) (bits-part ++ (state-part ++ tail-part)) (v .width-fits))
+    pub form-length : length (formOf h) ≡ formBytes (family h)
+    unfolding formOf
+    form-length =
+        let parts = four-parts width-part bits-part state-part tail-part size
+        (length-littleEndian 2 (h .width)) (length-littleEndian lengthBytes (h .bits)) block-bytes in
+        omega (arith, parts, tail-bytes)
 
-  form-bits : formBits (formOf h) ≡ h .bits
-  unfolding formBits formOf
-  form-bits =
-      rw (behind-width width-part bits-part state-part tail-part size
-      (length-littleEndian 2 (h .width)) (length-littleEndian lengthBytes (h .bits)) block-bytes)
-      (number-written lengthBytes (h .bits) (state-part ++ tail-part) (v .bits-fit))
+  module _ (v : Value h) (good : legal h ≡ true) where
+    abbrev l : Long h
+    l = long (v .sized)
 
-  form-words : wordsOf (stateWords (family h)) (drop headBytes (formOf h)) ≡ reached h
-  unfolding formOf
-  form-words =
-      rw (
-        behind-bits width-part bits-part state-part tail-part size
-            (length-littleEndian 2 (h .width)) (length-littleEndian lengthBytes (h .bits)) block-bytes,
-        ← length-reached h (v .sized .words),
-      )
-      (words-bytes (reached h) tail-part (reached-fits h (v .word-fits)))
+    form-width : formWidth (formOf h) ≡ h .width
+    unfolding formWidth formOf
+    form-width =
+        rw (
+          append-assoc (width-part ++ bits-part) state-part tail-part,
+          append-assoc width-part bits-part (state-part ++ tail-part),
+        )
+        (number-written 2 (h .width) (bits-part ++ (state-part ++ tail-part)) (v .width-fits))
 
-  form-tail : drop (headBytes + size) (formOf h) ≡ tail-part
-  unfolding formOf
-  form-tail =
-      behind-state width-part bits-part state-part tail-part size
-      (length-littleEndian 2 (h .width)) (length-littleEndian lengthBytes (h .bits)) block-bytes
+    form-bits : formBits (formOf h) ≡ h .bits
+    unfolding formBits formOf
+    form-bits =
+        rw (behind-width width-part bits-part state-part tail-part size
+        (length-littleEndian 2 (h .width)) (length-littleEndian lengthBytes (h .bits)) (block-bytes l))
+        (number-written lengthBytes (h .bits) (state-part ++ tail-part) (v .bits-fit))
 
-  pub form-length : length (formOf h) ≡ formBytes (family h)
-  unfolding formOf
-  form-length =
-      let parts = four-parts width-part bits-part state-part tail-part size
-      (length-littleEndian 2 (h .width)) (length-littleEndian lengthBytes (h .bits)) block-bytes in
-      omega (arith, parts, tail-bytes)
+    form-words : wordsOf (stateWords (family h)) (drop headBytes (formOf h)) ≡ reached h
+    unfolding formOf
+    form-words =
+        rw (
+          behind-bits width-part bits-part state-part tail-part size
+              (length-littleEndian 2 (h .width)) (length-littleEndian lengthBytes (h .bits)) (block-bytes l),
+          ← length-reached h (v .sized .words),
+        )
+        (words-bytes (reached h) tail-part (reached-fits h (v .word-fits)))
 
-  past-block : allZero (drop size (h .tail)) ≡ true
-  past-block = bytes-past (used h) size (h .tail) (v .sized .byte-fits) (legal-tail h good) (block-within (family h) (h .bits))
+    form-tail : drop (headBytes + size) (formOf h) ≡ tail-part
+    unfolding formOf
+    form-tail =
+        behind-state width-part bits-part state-part tail-part size
+        (length-littleEndian 2 (h .width)) (length-littleEndian lengthBytes (h .bits)) (block-bytes l)
 
-  same-tail : padded 128 tail-part ≡ h .tail
-  same-tail = padded-take 128 size (h .tail) (v .sized .bytes) past-block
+    past-block : allZero (drop size (h .tail)) ≡ true
+    past-block = bytes-past (used h) size (h .tail) (v .sized .byte-fits) (legal-tail h good) (block-within (family h) (h .bits))
 
-  pub form-hash : hashOf (formOf h) ≡ h
-  unfolding hashOf rebuilt reached
-  form-hash =
-      let words = form-words in
-      let state = ap (padded 32) words ∙ padded-take 32 (stateWords (family h)) (h .state) (v .sized .words) (legal-state h good) in
-      let tail = ap (padded 128) form-tail ∙ same-tail in
-      (λ i. rebuilt (form-width i) (form-bits i) (formOf h))
-      ∙ λ i. record { width = h .width; bits = h .bits; state = state i; tail = tail i }
+    same-tail : padded 128 tail-part ≡ h .tail
+    same-tail = padded-take 128 size (h .tail) (v .sized .bytes) past-block
 
-  form-clear : clear (used h) tail-part ≡ true
-  form-clear =
-      clear-same (used h) (h .tail) tail-part
-      (λ j. ap (λ (l : List ℕ). getD l j 0) (sym same-tail) ∙ getD-padded 128 tail-part j (omega (arith, tail-bytes, bytes-within (family h))))
-      (legal-tail h good)
+    pub form-hash : hashOf (formOf h) ≡ h
+    unfolding hashOf rebuilt reached
+    form-hash =
+        let words = form-words in
+        let state = ap (padded 32) words ∙ padded-take 32 (stateWords (family h)) (h .state) (v .sized .words) (legal-state h good) in
+        let tail = ap (padded 128) form-tail ∙ same-tail in
+        (λ i. rebuilt (form-width i) (form-bits i) (formOf h))
+        ∙ λ i. record { width = h .width; bits = h .bits; state = state i; tail = tail i }
 
-  pub form-accepted : restoreRefusal (formOf h) ≡ 0
-  unfolding restoreRefusal
-  form-accepted =
-      rw (
-        le-leb 2 (length (formOf h)) (omega (arith, form-length)),
-        form-width,
-        form-bits,
-        legal-width h good,
-        eq-eqb (length (formOf h)) (formBytes (family h)) form-length,
-        form-tail,
-        form-clear,
-      )
+    form-clear : clear (used h) tail-part ≡ true
+    form-clear =
+        clear-same (used h) (h .tail) tail-part
+        (λ j. ap (λ (l : List ℕ). getD l j 0) (sym same-tail) ∙ getD-padded 128 tail-part j (omega (arith, tail-bytes l, bytes-within (family h))))
+        (legal-tail h good)
+
+    pub form-accepted : restoreRefusal (formOf h) ≡ 0
+    unfolding restoreRefusal
+    form-accepted =
+        rw (
+          le-leb 2 (length (formOf h)) (omega (arith, form-length l)),
+          form-width,
+          form-bits,
+          legal-width h good,
+          eq-eqb (length (formOf h)) (formBytes (family h)) (form-length l),
+          form-tail,
+          form-clear,
+        )
 
 module _ (form : List ℕ) (fits : (i : ℕ) → getD form i 0 < 256) (a : Accepted form) where
   dropped-fits : (n i : ℕ) → getD (drop n form) i 0 < 256

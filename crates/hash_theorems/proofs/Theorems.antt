@@ -26,7 +26,7 @@ use Rattle.hash.specs.declared.Fed.{Fed}
 use Rattle.hash.specs.Form.{formOf, hashOf, restoreRefusal, restoreAnswer}
 use Rattle.bits.proofs.Zeros.{clear-of}
 use Rattle.hash.proofs.Holding.{Sized, Value}
-use Rattle.hash_theorems.proofs.Held.{held-state, held-tail, held-legal}
+use Rattle.hash_theorems.proofs.Held.{long, held-state, held-tail, held-legal}
 use Rattle.hash.proofs.Feeding.{Whole, fed-whole, length-message, bits-message, start-length}
 use Rattle.hash_theorems.proofs.Advanced.{held-sized, advanced-sized, advanced-bits, advanced-legal, advanced-append}
 use Rattle.hash_theorems.proofs.Advanced.{advanced-none, blocks-append, none-full, final-advanced, message-blocks}
@@ -87,8 +87,8 @@ feed-all h s good (p ∷ ps) whole short =
     let bit = bits-message (p .bytes) (p .count) in
     let first = fed-whole h (p .bytes) (p .count) good (whole .0) (omega arith) in
     let left : advanced h m .bits + length (joined ps) ≤ limit = omega (arith, advanced-bits h m) in
-    let rest = feed-all (advanced h m) (advanced-sized h s m bit) (advanced-legal h s m bit good) ps (whole .1) left in
-    let hash = advanced-append h s m (joined ps) bit in
+    let rest = feed-all (advanced h m) (advanced-sized h (long s) m bit) (advanced-legal h (long s) m bit good) ps (whole .1) left in
+    let hash = advanced-append h (long s) m (joined ps) bit in
     let blocks = sym (blocks-append h m (joined ps)) in
     rw (first, rest) (λ i. record { hash = hash i; blocks = blocks i; refusal = 0 })
 
@@ -193,11 +193,11 @@ used-below : (f : Family) (n : ℕ) → n % blockBits f < blockBits f
 used-below small n = omega arith
 used-below large n = omega arith
 
-take-accepted : (h : Hash) (out : List ℕ) → legal h ≡ true → digestBytes (h .width) ≤ length out → takeRefusal h out ≡ 0
+pub take-accepted : (h : Hash) (out : List ℕ) → legal h ≡ true → digestBytes (h .width) ≤ length out → takeRefusal h out ≡ 0
 unfolding takeRefusal
 take-accepted h out good room = rw (good, le-leb (digestBytes (h .width)) (length out) room)
 
-take-whole : (h : Hash) (out : List ℕ) → legal h ≡ true → digestBytes (h .width) ≤ length out
+pub take-whole : (h : Hash) (out : List ℕ) → legal h ≡ true → digestBytes (h .width) ≤ length out
     → takeAnswer h out ≡ record { hash = h; blocks = compressions (family h) (used h); refusal = 0 }
 unfolding takeAnswer taken
 take-whole h out good room = rw (take-accepted h out good room)
@@ -216,7 +216,7 @@ pub from-any : (h : Hash) → Sized h → legal h ≡ true → (ps : List Piece)
     (chain (family h) (reached h) (pending h ++ joined ps) (messageBlocks (family h) (length (pending h ++ joined ps))))
     (lengthBlock (family h) (h .bits + length (joined ps)))
 from-any h s good ps whole short =
-    ap (λ (a : Fed). finalOf (a .hash)) (feed-all h s good ps whole short) ∙ final-advanced h s (joined ps) (bits-joined ps)
+    ap (λ (a : Fed). finalOf (a .hash)) (feed-all h s good ps whole short) ∙ final-advanced h (long s) (joined ps) (bits-joined ps)
 
 -- Opened at a width, fed the pieces of any cutting of any message of at most the limit's bits, and taken: no piece is refused, the digest is
 -- the message's, and the blocks of the feeds and of the take are the message's compressions.
@@ -240,12 +240,12 @@ module _ (width : ℕ) (known : isWidth width ≡ true) (m : List ℕ) (bit : Bi
   after-bits = zero-add (length m)
 
   pub after-legal : legal (advanced (first width) m) ≡ true
-  after-legal = advanced-legal (first width) (first-sized width known) m bit (first-legal width known)
+  after-legal = advanced-legal (first width) (long (first-sized width known)) m bit (first-legal width known)
 
   after-final : finalOf after ≡ finalState width m
   unfolding finalState final holding
   after-final =
-      final-advanced (first width) (first-sized width known) m bit
+      final-advanced (first width) (long (first-sized width known)) m bit
       ∙ rw (first-state width known, first-tail width known, zero-add (length m))
 
   pub after-digest : digestOf (advanced (first width) m) ≡ digest width m
@@ -255,7 +255,7 @@ module _ (width : ℕ) (known : isWidth width ≡ true) (m : List ℕ) (bit : Bi
   after-blocks : fullBlocks (first width) (length m) + compressions (family after) (used after) ≡ compressions (familyOf width) (length m)
   unfolding advanced holding compressions
   after-blocks =
-      let count = message-blocks (first width) (first-sized width known) m in
+      let count = message-blocks (first width) (long (first-sized width known)) m in
       let alone = rw (first-tail width known) at count in
       omega (arith, alone)
 
@@ -281,12 +281,12 @@ cutting width known ps whole short out room =
     let all = feed-all (first width) (first-sized width known) (first-legal width known) ps whole (omega arith) in
     rw (open-known width known, all) (after-hashed width known (joined ps) (bits-joined ps) out room)
 
-opened-refusal : (r : ℕ) (h : Hash) → opened r h .refusal ≡ r
+pub opened-refusal : (r : ℕ) (h : Hash) → opened r h .refusal ≡ r
 unfolding opened
 opened-refusal zero h = refl
 opened-refusal (suc r) h = refl
 
-opened-known : (r : ℕ) (h : Hash) → r ≡ 0 → opened r h ≡ record { hash = h; refusal = 0 }
+pub opened-known : (r : ℕ) (h : Hash) → r ≡ 0 → opened r h ≡ record { hash = h; refusal = 0 }
 unfolding opened
 opened-known r h none = ap (λ (r : ℕ). opened r h) none
 

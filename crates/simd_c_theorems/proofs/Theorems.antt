@@ -22,6 +22,7 @@ use Rattle.hash.specs.declared.Opened.{Opened}
 use Rattle.hash.specs.declared.Fed.{Fed}
 use Rattle.hash.proofs.Holding.{Value, length-reached}
 use Rattle.hash.proofs.Feeding.{Whole, fed-whole, length-message, bits-message}
+use Rattle.hash_theorems.proofs.Held.{long}
 use Rattle.hash_theorems.proofs.Advanced.{advanced-sized, advanced-bits, advanced-legal}
 use Rattle.hash_theorems.proofs.Storing.{reached-fits, form-length}
 use Rattle.hash.proofs.Refusing.{written-accepted}
@@ -66,7 +67,7 @@ advanced-value h v m bit short =
     let state = chain f (reached h) (pending h ++ m) k in
     let size = chain-length f (reached h) (pending h ++ m) k (length-reached h (v .sized .words)) in
     record {
-      sized = advanced-sized h (v .sized) m bit;
+      sized = advanced-sized h (long (v .sized)) m bit;
       width-fits = v .width-fits;
       bits-fit = omega (arith, short);
       word-fits = λ i.
@@ -93,7 +94,7 @@ module _ (h : Hash) (v : Value h) (good : legal h ≡ true) (bytes : List ℕ) (
   next-value = advanced-value h v m bit total
 
   next-legal : legal (advanced h m) ≡ true
-  next-legal = advanced-legal h (v .sized) m bit good
+  next-legal = advanced-legal h (long (v .sized)) m bit good
 
   read : restoreAnswer (formOf h) ≡ record { hash = h; refusal = 0 }
   read = stored-restored h v good
@@ -104,12 +105,12 @@ module _ (h : Hash) (v : Value h) (good : legal h ≡ true) (bytes : List ℕ) (
 
   same-size : length (formOf (advanced h m)) ≡ length (formOf h)
   unfolding advanced holding
-  same-size = form-length (advanced h m) next-value next-legal ∙ sym (form-length h v good)
+  same-size = form-length (advanced h m) (long (next-value .sized)) ∙ sym (form-length h (long (v .sized)))
 
   one-accepted : feedCall (formOf h) bytes count ≡ 0
   unfolding feedCall first storeAnswer storeRefusal
   one-accepted =
-      let size = form-length (advanced h m) next-value next-legal in
+      let size = form-length (advanced h m) (long (next-value .sized)) in
       let room = le-leb (formBytes (family (advanced h m))) (length (formOf h)) (omega (arith, size, same-size)) in
       rw (read, one-fed, next-legal, room)
 
@@ -182,12 +183,12 @@ module _ (width : ℕ) (known : isWidth width ≡ true) (form : List ℕ) (size 
 
   first-size : length (formOf h) ≡ length form
   unfolding holding
-  first-size = form-length h v good ∙ ap (λ (o : Opened). formBytes (family (o .hash))) (open-known width known) ∙ sym size
+  first-size = form-length h (long (v .sized)) ∙ ap (λ (o : Opened). formBytes (family (o .hash))) (open-known width known) ∙ sym size
 
   open-accepted : openCall width form ≡ 0
   unfolding openCall first storeAnswer openedHash storeRefusal
   open-accepted =
-      let room = le-leb (formBytes (family h)) (length form) (omega (arith, form-length h v good, first-size)) in
+      let room = le-leb (formBytes (family h)) (length form) (omega (arith, form-length h (long (v .sized)), first-size)) in
       rw (good, room, open-known width known)
 
   open-form : openedForm width form ≡ formOf h
@@ -201,7 +202,7 @@ module _ (width : ℕ) (known : isWidth width ≡ true) (form : List ℕ) (size 
       let advance = feed-all h (v .sized) good ps whole within in
       let run = ap (λ (l : List ℕ). feeds l ps) open-form ∙ feeds-all h v good ps whole within in
       let a-value : Value a = rw advance (advanced-value h v (joined ps) (bits-joined ps) within) in
-      let a-legal : legal a ≡ true = rw advance (advanced-legal h (v .sized) (joined ps) (bits-joined ps) good) in
+      let a-legal : legal a ≡ true = rw advance (advanced-legal h (long (v .sized)) (joined ps) (bits-joined ps) good) in
       let hashed = cutting width known ps whole short out room in
       record {
         opened = open-accepted;

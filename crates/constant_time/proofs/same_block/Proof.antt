@@ -3,9 +3,9 @@ use Prim.Native.Nat.{_≤_, _-_}
 use mathlib.Core.Path.{_≡_}
 use borrow.Author.Needs.{needs}
 use lib.ListN.{length}
-use Rattle.comparison.proofs.SharedLaws.{Seen, seen-none, seen-more, seen-all}
-use Rattle.comparison.proofs.same_block.Statement.{statement}
-use Rattle.comparison.proofs.same_block.Tie as tie
+use Rattle.constant_time.proofs.Seen.{Seen, seen-none, seen-more, seen-all}
+use Rattle.constant_time.proofs.same_block.Statement.{statement}
+use Rattle.constant_time.proofs.same_block.Tie as tie
 
 abbrev Inv-loop : tie.InvT-loop
 Inv-loop x y seen₀ i₀ seen i = Seen x y i seen
