@@ -8,12 +8,18 @@ ghost use Rattle.simd.specs.Hash.{digest};
 ghost use Rattle.hash.specs.Open.{takeAnswer, digestOf, written};
 ghost use Rattle.hash.specs.Form.{formOf, restoreAnswer};
 ghost use Rattle.digest.specs.Call.{digestRefusal};
+ghost use Rattle.hmac_key.specs.Hmac.{tag as tagOfMessage};
+ghost use Rattle.hmac.specs.Keyed.{takeAnswer as takeAnswerKeyed, checkAnswer, tagOf};
+ghost use Rattle.hmac.specs.Form.{keyedForm, restoreAnswer as restoreKeyed};
+ghost use Rattle.hmac_tag.specs.Call.{tagRefusal};
 ghost use Rattle.pairs.specs.Answer.{answer};
 ghost use Rattle.expansion.specs.Call.{expandRefusal, expandOutput};
 ghost use Rattle.stepping.specs.Call.{stepsRefusal, stepsOutput, forward, backward};
 ghost use Rattle.tape.specs.Run.{ranOf, output};
 ghost use Rattle.text.specs.Text.{over};
 ghost use Rattle.simd_c_forms.specs.Calls.{stored, openedHash, openCall, fedFrom, feedCall, takeCall};
+ghost use Rattle.simd_c_hmac.specs.Calls.{openedHmac, openCall as openKeyed, fedFrom as fedKeyed, feedCall as feedKeyed, takeCall as takeKeyed};
+ghost use Rattle.simd_c_hmac.specs.Calls.{checkCall, yes};
 ghost use Rattle.simd_c_answers.specs.Calls.{refusalOf, verdictAfter, blockAfter, runWithin, placed};
 
 #[no_mangle]
@@ -53,6 +59,56 @@ pub extern "C" fn simd_hash(width: u16, message: &[u8], bits: u64, out: &mut [u8
         (digest width (messageOf (now (message .entry)) bits)) (now (out .entry)) ⌝ }
 {
     digest::digest(width, message, bits as usize, out)
+}
+
+#[no_mangle]
+pub extern "C" fn simd_hmac_open(width: u16, key: &[u8], form: &mut [u8]) -> u8
+    ensures { λ r. ⌜ r ≡ openKeyed width (now (key .entry)) (now (form .entry)) ⌝ }
+    ensures { λ r. ⌜ now (form .exit) ≡ written (openKeyed width (now (key .entry)) (now (form .entry)))
+        (keyedForm (openedHmac width (now (key .entry)))) (now (form .entry)) ⌝ }
+{
+    simd_c_hmac::open_form(width, key, form)
+}
+
+#[no_mangle]
+pub extern "C" fn simd_hmac_feed(form: &mut [u8], piece: &[u8], bits: u64, blocks: &mut u64) -> u8
+    ensures { λ r. ⌜ r ≡ feedKeyed (now (form .entry)) (now (piece .entry)) bits ⌝ }
+    ensures { λ r. ⌜ now (form .exit) ≡ written (feedKeyed (now (form .entry)) (now (piece .entry)) bits)
+        (keyedForm (fedKeyed (now (form .entry)) (now (piece .entry)) bits .hmac)) (now (form .entry)) ⌝ }
+    ensures { λ r. ⌜ now (blocks .exit) ≡ stored (feedKeyed (now (form .entry)) (now (piece .entry)) bits)
+        (fedKeyed (now (form .entry)) (now (piece .entry)) bits .blocks) (now (blocks .entry)) ⌝ }
+{
+    simd_c_hmac::feed_form(form, piece, bits, blocks)
+}
+
+#[no_mangle]
+pub extern "C" fn simd_hmac_take(form: &[u8], tag: &mut [u8], blocks: &mut u64) -> u8
+    ensures { λ r. ⌜ r ≡ takeKeyed (now (form .entry)) (now (tag .entry)) ⌝ }
+    ensures { λ r. ⌜ now (tag .exit) ≡ written (takeKeyed (now (form .entry)) (now (tag .entry)))
+        (tagOf (restoreKeyed (now (form .entry)) .hmac)) (now (tag .entry)) ⌝ }
+    ensures { λ r. ⌜ now (blocks .exit) ≡ stored (takeKeyed (now (form .entry)) (now (tag .entry)))
+        (takeAnswerKeyed (restoreKeyed (now (form .entry)) .hmac) (now (tag .entry)) .blocks) (now (blocks .entry)) ⌝ }
+{
+    simd_c_hmac::take_form(form, tag, blocks)
+}
+
+#[no_mangle]
+pub extern "C" fn simd_hmac_check(form: &[u8], tag: &[u8], right: &mut u64) -> u8
+    ensures { λ r. ⌜ r ≡ checkCall (now (form .entry)) (now (tag .entry)) ⌝ }
+    ensures { λ r. ⌜ now (right .exit) ≡ stored (checkCall (now (form .entry)) (now (tag .entry)))
+        (yes (checkAnswer (restoreKeyed (now (form .entry)) .hmac) (now (tag .entry)) .right)) (now (right .entry)) ⌝ }
+{
+    simd_c_hmac::check_form(form, tag, right)
+}
+
+#[no_mangle]
+pub extern "C" fn simd_hmac(width: u16, key: &[u8], message: &[u8], bits: u64, tag: &mut [u8]) -> u8
+    ensures { λ r. ⌜ r ≡ tagRefusal width (now (key .entry)) (now (message .entry)) bits (length (now (tag .entry))) ⌝ }
+    ensures { λ r. ⌜ now (tag .exit)
+        ≡ written (tagRefusal width (now (key .entry)) (now (message .entry)) bits (length (now (tag .entry))))
+        (tagOfMessage width (now (key .entry)) (messageOf (now (message .entry)) bits)) (now (tag .entry)) ⌝ }
+{
+    hmac_tag::tag(width, key, message, bits as usize, tag)
 }
 
 #[no_mangle]

@@ -59,7 +59,7 @@ unfoldable pub takenBlocks : List ℕ → List ℕ → ℕ
 takenBlocks form out = stored (takeCall form out) (takeAnswer (restoreAnswer form .hash) out .blocks) 0
 
 -- A hash that was fed is again one that a form can hold.
-advanced-value : (h : Hash) → Value h → (m : List ℕ) → Bits m → h .bits + length m ≤ limit → Value (advanced h m)
+pub advanced-value : (h : Hash) → Value h → (m : List ℕ) → Bits m → h .bits + length m ≤ limit → Value (advanced h m)
 unfolding advanced holding
 advanced-value h v m bit short =
     let f = family h in
@@ -76,7 +76,7 @@ advanced-value h v m bit short =
     }
 
 -- A form stored over one of the same size is all of it.
-stored-over : (new old : List ℕ) → length new ≡ length old → new ++ drop (length new) old ≡ new
+pub stored-over : (new old : List ℕ) → length new ≡ length old → new ++ drop (length new) old ≡ new
 stored-over new old same = ap (λ n. new ++ drop n old) same ∙ ap (λ l. new ++ l) (drop-length old) ∙ append-nil new
 
 -- One feed.
