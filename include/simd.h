@@ -1,4 +1,5 @@
-/* simd.h - SIMD v1.1: digests of bit strings, comparison, sealing tape
+/* simd.h - SIMD v1.1: digests and keyed seals of bit strings, comparison,
+   sealing tape
 
    C99 and C++11, on x86-64.  Link with -lsimd, or with libsimd.a by its path.
 
@@ -14,7 +15,9 @@
      Elsewhere an open hash is called a hashing context, a stored form the
      serialized context, a width the digest size, to feed a piece to update, to
      take a digest to finalize (here the hash stays open), a state the chaining
-     value, and messages that meet a collision of the whole state.
+     value, and messages that meet a collision of the whole state.  A keyed seal
+     is a message authentication code, its bytes are the tag, and to check a tag
+     is to verify it.
 
    MESSAGES
      A message is a string of bits, given as bytes and a count of bits.  In a
@@ -106,6 +109,54 @@
            return 0;
        }
 
+     keyed.c: a keyed seal, made in one call and checked in pieces.  The tag is
+     right only where nothing is refused and right is 1.  The form is as secret
+     as the key and is wiped, through a volatile pointer: a memset just before
+     the end may be left out by the compiler.
+
+       #include <stdio.h>
+       #include "simd.h"
+
+       static const uint8_t KEY[5] = {'g', 'r', 'o', 'u', 'p'};
+
+       static void wipe(uint8_t *bytes, size_t len)
+       {
+           volatile uint8_t *byte = bytes;
+           while (len-- > 0)
+               *byte++ = 0;
+       }
+
+       static bool is_right(const uint8_t *message, size_t message_len,
+                            const uint8_t *tag, size_t tag_len)
+       {
+           uint8_t form[SIMD_HMAC_FORM(256)];
+           uint64_t blocks, right = 0;
+           uint8_t refusal = simd_hmac_open(256, KEY, sizeof KEY, form, sizeof form);
+           for (size_t k = 0; refusal == SIMD_ACCEPTED && k < message_len; k++)
+               refusal = simd_hmac_feed(form, sizeof form, message + k, 1, 8, &blocks);
+           if (refusal == SIMD_ACCEPTED)
+               refusal = simd_hmac_check(form, sizeof form, tag, tag_len, &right);
+           wipe(form, sizeof form);
+           return refusal == SIMD_ACCEPTED && right == 1;
+       }
+
+       int main(void)
+       {
+           uint8_t message[3] = {'a', 'b', 'c'}, tag[SIMD_DIGEST(256)];
+           uint8_t refusal = simd_hmac(256, KEY, sizeof KEY, message, sizeof message,
+                                       8 * sizeof message, tag, sizeof tag);
+           if (refusal != SIMD_ACCEPTED) {
+               fprintf(stderr, "refused %d: %s\n", refusal, simd_refusal_text(refusal));
+               return 1;
+           }
+           for (int k = 0; k < SIMD_DIGEST(256); k++)
+               printf("%02x", tag[k]);
+           printf(" %s\n", is_right(message, sizeof message, tag, sizeof tag) ? "right" : "wrong");
+           message[0] ^= 1;
+           puts(is_right(message, sizeof message, tag, sizeof tag) ? "right" : "wrong");
+           return 0;
+       }
+
      vector.cpp: a std::vector, which may be empty.
 
        #include <cstdio>
@@ -164,6 +215,8 @@ extern "C" {
 #define SIMD_BLOCK_LARGE 128    /* and of the large family */
 #define SIMD_FORM_SMALL 134     /* a stored form: 6 bytes, state, block */
 #define SIMD_FORM_LARGE 262
+#define SIMD_HMAC_FORM_SMALL 268    /* a keyed form: two stored forms */
+#define SIMD_HMAC_FORM_LARGE 524
 #define SIMD_WORDS_SMALL 128    /* an expanded block, in words of 32 bits */
 #define SIMD_WORDS_LARGE 256
 #define SIMD_DIGEST_MAX 64      /* the longest digest */
@@ -171,10 +224,12 @@ extern "C" {
 /* The same for one of the four widths. */
 #define SIMD_BLOCK(width) ((width) <= 256 ? SIMD_BLOCK_SMALL : SIMD_BLOCK_LARGE)
 #define SIMD_FORM(width) ((width) <= 256 ? SIMD_FORM_SMALL : SIMD_FORM_LARGE)
+#define SIMD_HMAC_FORM(width) ((width) <= 256 ? SIMD_HMAC_FORM_SMALL : SIMD_HMAC_FORM_LARGE)
 #define SIMD_WORDS(width) ((width) <= 256 ? SIMD_WORDS_SMALL : SIMD_WORDS_LARGE)
 #define SIMD_DIGEST(width) ((width) / 8)
 
-/* The most bits of a message. */
+/* The most bits of a message; of a keyed hash, of its key, and of its message with
+   one block for the key. */
 #define SIMD_BITS_MAX UINT64_C(4294967295)
 
 /* The most stack of a call, in bytes, at any width and for all arguments, with
@@ -185,12 +240,17 @@ extern "C" {
 #define SIMD_STACK_FEED 10240
 #define SIMD_STACK_TAKE 9216
 #define SIMD_STACK_HASH 7680
+#define SIMD_STACK_HMAC_OPEN 9216
+#define SIMD_STACK_HMAC_FEED 11264
+#define SIMD_STACK_HMAC_TAKE 11264
+#define SIMD_STACK_HMAC_CHECK 11264
+#define SIMD_STACK_HMAC 9216
 #define SIMD_STACK_EXPAND 4864
 #define SIMD_STACK_STEPS 5632
 #define SIMD_STACK_UNSTEPS 5632
 #define SIMD_STACK_COMPARE 8192
 #define SIMD_STACK_TAPE 10240
-#define SIMD_STACK_MAX 10240    /* of all calls */
+#define SIMD_STACK_MAX 11264    /* of all calls */
 
 /* REFUSALS */
 
@@ -198,8 +258,10 @@ extern "C" {
 #define SIMD_REFUSED_WIDTH 1     /* the width is none of the four */
 #define SIMD_REFUSED_COUNT 2     /* more bits than the bytes have */
 #define SIMD_REFUSED_SPARE 3     /* a bit set past the count in the last byte used */
-#define SIMD_REFUSED_TOTAL 4     /* more than SIMD_BITS_MAX bits in all */
-#define SIMD_REFUSED_HASH 5      /* an open hash that is none; no call here answers it */
+#define SIMD_REFUSED_TOTAL 4     /* more than SIMD_BITS_MAX bits in all; also of a key, and of
+                                    a message with one key block */
+#define SIMD_REFUSED_HASH 5      /* an open hash that is none; here, two stored forms that no
+                                    keyed hash holds */
 #define SIMD_REFUSED_OUTPUT 6    /* the output is too short */
 #define SIMD_REFUSED_BLOCK 7     /* a block or state of another size than the width's */
 #define SIMD_REFUSED_FORM 8      /* a stored form of another size than its width's */
@@ -220,7 +282,7 @@ static inline const char *simd_refusal_text(uint8_t refusal)
     case SIMD_REFUSED_COUNT: return "more bits than the bytes have";
     case SIMD_REFUSED_SPARE: return "a bit is set past the count";
     case SIMD_REFUSED_TOTAL: return "more than 4294967295 bits in all";
-    case SIMD_REFUSED_HASH: return "the open hash is none";
+    case SIMD_REFUSED_HASH: return "the open or keyed hash is none";
     case SIMD_REFUSED_OUTPUT: return "the output is too short";
     case SIMD_REFUSED_BLOCK: return "the block or state has not the width's size";
     case SIMD_REFUSED_FORM: return "the stored form has not its width's size";
@@ -311,6 +373,106 @@ SIMD_CALL uint8_t simd_take(const uint8_t *form, size_t form_len,
      SIMD_REFUSED_OUTPUT  out_len is below SIMD_DIGEST(width) */
 SIMD_CALL uint8_t simd_hash(uint16_t width, const uint8_t *message, size_t message_len,
                             uint64_t bits, uint8_t *out, size_t out_len);
+
+/* KEYED SEALS
+
+   HMAC of FIPS 198-1 over the digest of the width.  A key is whole bytes, in any
+   number: one that is longer than SIMD_BLOCK(width) bytes is hashed first, one of
+   exactly so many is not, and an empty one is allowed.  A tag has
+   SIMD_DIGEST(width) bytes.
+
+   A keyed hash is held by the caller as its keyed form, SIMD_HMAC_FORM(width)
+   bytes: the stored form of the inner hash, which has taken the key block and what
+   was fed, and then that of the outer one, which has taken the key block alone.
+   To store a keyed hash is to keep these bytes.
+
+   A KEYED FORM IS AS SECRET AS ITS KEY: who has it can make seals under that key.
+   Store it as a key is stored, and wipe it once it is not needed any more, as
+   keyed.c above does.  No call clears the stack that it used: parts of a key or of
+   a form may be left there.
+
+   0 MEANS "NOT REFUSED", NOT "RIGHT": the verdict of a check is in *right.
+
+   simd_hmac_check compares a tag of the right length with no early end, wherever
+   a byte differs.  No other call compares tags, and nothing else here is made to
+   take the same time for all data.
+
+   A keyed form handed over is refused with
+     those of a form      its first form_len / 2 bytes as a stored form
+     those of a form      the bytes after these as a stored form
+     SIMD_REFUSED_HASH    the two have unequal widths, the inner one has fewer bits
+                          than a key block, or the outer one has not exactly those
+                          of a key block: 512, or 1,024 in the large family
+   in this order; below, "those of a keyed form". */
+
+/* simd_hmac_open - open a keyed hash
+
+   Writes the keyed form of key, with nothing fed, to the first
+   SIMD_HMAC_FORM(width) bytes of form.
+
+   Refusals, in order:
+     SIMD_REFUSED_WIDTH
+     SIMD_REFUSED_TOTAL   8 * key_len is above SIMD_BITS_MAX
+     SIMD_REFUSED_OUTPUT  form_len is below SIMD_HMAC_FORM(width) */
+SIMD_CALL uint8_t simd_hmac_open(uint16_t width, const uint8_t *key, size_t key_len,
+                                 uint8_t *form, size_t form_len);
+
+/* simd_hmac_feed - feed a piece of a message to a keyed hash
+
+   As simd_feed.
+
+   Refusals, in order:
+     those of a keyed form
+     SIMD_REFUSED_COUNT   bits is above 8 * piece_len
+     SIMD_REFUSED_SPARE   a bit after the last one is set in its byte
+     SIMD_REFUSED_TOTAL   key block and message would have more than SIMD_BITS_MAX
+                          bits */
+SIMD_CALL uint8_t simd_hmac_feed(uint8_t *form, size_t form_len,
+                                 const uint8_t *piece, size_t piece_len, uint64_t bits,
+                                 uint64_t *blocks);
+
+/* simd_hmac_take - take the tag of what was fed
+
+   Writes the tag to the first SIMD_DIGEST(width) bytes of tag; the width is the
+   form's.  The keyed hash stays open: form is not changed and may be fed on.
+   *blocks becomes the number of blocks compressed: 4 where bits were left over
+   full blocks, else 3; 2 of them are the outer hash's.
+
+   Refusals, in order:
+     those of a keyed form
+     SIMD_REFUSED_OUTPUT  tag_len is below SIMD_DIGEST(width) */
+SIMD_CALL uint8_t simd_hmac_take(const uint8_t *form, size_t form_len,
+                                 uint8_t *tag, size_t tag_len, uint64_t *blocks);
+
+/* simd_hmac_check - check given bytes against the tag of what was fed
+
+   *right becomes 1 where the tag_len bytes of tag are the whole tag, neither
+   shorter nor longer nor other, and else 0.  A tag of another length, also an
+   empty one, is not refused: *right becomes 0.  On a refusal *right is left as it
+   was; set it to 0 before the call.  The keyed hash stays open.
+
+   Refusals:
+     those of a keyed form */
+SIMD_CALL uint8_t simd_hmac_check(const uint8_t *form, size_t form_len,
+                                  const uint8_t *tag, size_t tag_len, uint64_t *right);
+
+/* simd_hmac - the tag of a message, in one call
+
+   Writes the tag of the first bits bits of message under key to the first
+   SIMD_DIGEST(width) bytes of tag: the one that simd_hmac_open, simd_hmac_feed
+   and simd_hmac_take give, worked out in one pass.  key and message may overlap.
+
+   Refusals, in order:
+     SIMD_REFUSED_WIDTH
+     SIMD_REFUSED_TOTAL   8 * key_len is above SIMD_BITS_MAX
+     SIMD_REFUSED_COUNT   bits is above 8 * message_len
+     SIMD_REFUSED_SPARE   a bit after the last one is set in its byte
+     SIMD_REFUSED_TOTAL   bits and those of a key block, 8 * SIMD_BLOCK(width), are
+                          above SIMD_BITS_MAX
+     SIMD_REFUSED_OUTPUT  tag_len is below SIMD_DIGEST(width) */
+SIMD_CALL uint8_t simd_hmac(uint16_t width, const uint8_t *key, size_t key_len,
+                            const uint8_t *message, size_t message_len, uint64_t bits,
+                            uint8_t *tag, size_t tag_len);
 
 /* PARTS OF THE COMPRESSION
 

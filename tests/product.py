@@ -27,6 +27,11 @@ CALLS = {
     "simd_feed": (*SLICE, *SLICE, BITS, NUMBER),
     "simd_take": (*SLICE, *SLICE, NUMBER),
     "simd_hash": (WIDTH, *SLICE, BITS, *SLICE),
+    "simd_hmac_open": (WIDTH, *SLICE, *SLICE),
+    "simd_hmac_feed": (*SLICE, *SLICE, BITS, NUMBER),
+    "simd_hmac_take": (*SLICE, *SLICE, NUMBER),
+    "simd_hmac_check": (*SLICE, *SLICE, NUMBER),
+    "simd_hmac": (WIDTH, *SLICE, *SLICE, BITS, *SLICE),
     "simd_expand": (WIDTH, FLAG, *SLICE, *SLICE),
     "simd_steps": (WIDTH, FLAG, *SLICE, *SLICE, *SLICE),
     "simd_unsteps": (WIDTH, FLAG, *SLICE, *SLICE, *SLICE),
@@ -138,6 +143,26 @@ def take(form, out, blocks=0):
 
 def hash(width, message, bits, out):
     return call(library.simd_hash, width, const(message), bits, Lent(out))
+
+
+def hmac_open(width, key, form):
+    return call(library.simd_hmac_open, width, const(key), Lent(form))
+
+
+def hmac_feed(form, piece, bits, blocks=0):
+    return call(library.simd_hmac_feed, Lent(form), const(piece), bits, LentNumber(blocks))
+
+
+def hmac_take(form, tag, blocks=0):
+    return call(library.simd_hmac_take, const(form), Lent(tag), LentNumber(blocks))
+
+
+def hmac_check(form, tag, right=0):
+    return call(library.simd_hmac_check, const(form), const(tag), LentNumber(right))
+
+
+def hmac(width, key, message, bits, tag):
+    return call(library.simd_hmac, width, const(key), const(message), bits, Lent(tag))
 
 
 def expand(width, last, block, out):

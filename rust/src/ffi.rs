@@ -33,6 +33,50 @@ extern "C" {
         out_len: usize,
     ) -> u8;
 
+    pub fn simd_hmac_open(
+        width: u16,
+        key: *const u8,
+        key_len: usize,
+        form: *mut u8,
+        form_len: usize,
+    ) -> u8;
+
+    pub fn simd_hmac_feed(
+        form: *mut u8,
+        form_len: usize,
+        piece: *const u8,
+        piece_len: usize,
+        bits: u64,
+        blocks: *mut u64,
+    ) -> u8;
+
+    pub fn simd_hmac_take(
+        form: *const u8,
+        form_len: usize,
+        tag: *mut u8,
+        tag_len: usize,
+        blocks: *mut u64,
+    ) -> u8;
+
+    pub fn simd_hmac_check(
+        form: *const u8,
+        form_len: usize,
+        tag: *const u8,
+        tag_len: usize,
+        right: *mut u64,
+    ) -> u8;
+
+    pub fn simd_hmac(
+        width: u16,
+        key: *const u8,
+        key_len: usize,
+        message: *const u8,
+        message_len: usize,
+        bits: u64,
+        tag: *mut u8,
+        tag_len: usize,
+    ) -> u8;
+
     pub fn simd_expand(
         width: u16,
         last: bool,

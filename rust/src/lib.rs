@@ -1,10 +1,12 @@
 //! SIMD v1.1 digests of bit strings, over the proved library behind `include/simd.h`.
 //!
 //! The names are those of the C header: [`Hash::open`], [`Hash::feed`], [`Hash::take`], [`hash`],
-//! [`expand`], [`steps`], [`unsteps`], [`compare`], [`tape`]. A width is 224, 256, 384 or 512. A
-//! message is bytes and a count of bits; in a byte the first bit is the highest, and bits past the
-//! count in the last byte used have to be 0. Elsewhere an open hash is called a hashing context, to
-//! feed is to update, and to take is to finalize; here the hash stays open.
+//! [`Hmac::open`], [`Hmac::feed`], [`Hmac::take`], [`Hmac::check`], [`hmac`], [`expand`], [`steps`],
+//! [`unsteps`], [`compare`], [`tape`]. A width is 224, 256, 384 or 512. A message is bytes and a count
+//! of bits; in a byte the first bit is the highest, and bits past the count in the last byte used have
+//! to be 0. Elsewhere an open hash is called a hashing context, to feed is to update, and to take is
+//! to finalize; here the hash stays open. A keyed seal is a message authentication code, its bytes are
+//! the tag, and to check a tag is to verify it.
 //!
 //! ```
 //! let digest = simd::hash(256, b"", 0)?;
@@ -21,15 +23,28 @@
 //! assert_eq!(simd::hash_bytes(256, b"abc")?, simd::hash(256, b"abc", 24)?);
 //! # Ok::<(), simd::Refusal>(())
 //! ```
+//!
+//! A keyed seal (HMAC, FIPS 198-1) is made in one call, and checked by an [`Hmac`]:
+//!
+//! ```
+//! let tag = simd::hmac_bytes(256, b"a key", b"a reading")?;
+//!
+//! let mut keyed = simd::Hmac::open(256, b"a key")?;
+//! keyed.feed_bytes(b"a reading")?;
+//! assert!(keyed.check(tag.as_bytes()));
+//! # Ok::<(), simd::Refusal>(())
+//! ```
 
 #![warn(missing_docs)]
 
 mod ffi;
+mod keyed;
 mod refusal;
 
 use std::fmt;
 use std::io;
 
+pub use keyed::{hmac, hmac_bytes, Hmac, TakenTag};
 pub use refusal::{Refusal, TapeRefusal};
 
 /// The most bits of a message.

@@ -2,8 +2,9 @@ use std::error::Error;
 use std::fmt;
 use std::io;
 
-/// Why a call was refused.
+/// Why a call was refused. Later versions may have more numbers.
 #[derive(Clone, Copy, Debug, PartialEq, Eq, Hash)]
+#[non_exhaustive]
 #[repr(u8)]
 pub enum Refusal {
     /// The width is none of 224, 256, 384 and 512.
@@ -12,8 +13,12 @@ pub enum Refusal {
     Count = 2,
     /// A bit is set past the count: in the last byte used, or in the 32 bytes of a PART.
     Spare = 3,
-    /// The message would have more than [`BITS_MAX`](crate::BITS_MAX) bits.
+    /// The message would have more than [`BITS_MAX`](crate::BITS_MAX) bits; of a keyed hash, the key,
+    /// or the message with one key block.
     Total = 4,
+    /// Two stored forms that no keyed hash holds: of unequal widths, the inner one shorter than a key
+    /// block, or the outer one not exactly so long.
+    Hash = 5,
     /// The output is too short.
     Output = 6,
     /// A block or state has another size than the width's.
@@ -37,6 +42,7 @@ impl Refusal {
         Refusal::Count,
         Refusal::Spare,
         Refusal::Total,
+        Refusal::Hash,
         Refusal::Output,
         Refusal::Block,
         Refusal::Form,
@@ -68,6 +74,7 @@ impl fmt::Display for Refusal {
             Refusal::Count => "more bits than the bytes have",
             Refusal::Spare => "a bit is set past the count",
             Refusal::Total => "more than 4294967295 bits in all",
+            Refusal::Hash => "the open or keyed hash is none",
             Refusal::Output => "the output is too short",
             Refusal::Block => "the block or state has not the width's size",
             Refusal::Form => "the stored form has not its width's size",

@@ -5,6 +5,7 @@ tests/product.py and returns the same: the refusal, then the contents after
 the call of everything that was lent.
 """
 
+import hmac_ref
 import simd_ref as ref
 import tape_ref
 
@@ -39,6 +40,21 @@ def form_refusal(form):
     return 9 if int.from_bytes(block, "big") % 2 ** past else 0
 
 
+def key_refusal(key):
+    return 4 if 8 * len(key) > BITS_MAX else 0
+
+
+def keyed_refusal(form):
+    """The front half as a form, the back half as one, then what a keyed hash may hold."""
+    front, back = halves(form)
+    refusal = form_refusal(front) or form_refusal(back)
+    if refusal:
+        return refusal
+    (width, length, _, _), (back_width, back_length, _, _) = parts(front), parts(back)
+    key_bits = ref.block_bits(width)
+    return 0 if width == back_width and length >= key_bits == back_length else 5
+
+
 # Stored form
 
 def parts(form):
@@ -51,6 +67,11 @@ def parts(form):
 def make_form(width, length, state, block):
     return (width.to_bytes(2, "little") + length.to_bytes(4, "little")
             + ref.state_to_bytes(state) + block)
+
+
+def halves(form):
+    """The inner and the outer stored form of a keyed one."""
+    return form[:len(form) // 2], form[len(form) // 2:]
 
 
 def over(new, old):
@@ -108,6 +129,70 @@ def hash(width, message, bits, out):
     if refusal:
         return refusal, out
     return 0, over(ref.digest(width, message, bits), out)
+
+
+# A keyed hash is two open ones, made and worked by the calls above.
+
+def fed(form, data):
+    """A form fed whole bytes."""
+    return feed(form, data, 8 * len(data))[1]
+
+
+def hmac_open(width, key, form):
+    refusal = width_refusal(width) or key_refusal(key)
+    if not refusal:
+        empty = open(width, bytes(6 + 2 * ref.block_bytes(width)))[1]
+        refusal = 6 if len(form) < 2 * len(empty) else 0
+    if refusal:
+        return refusal, form
+    block = hmac_ref.key_block(ref.block_bytes(width), lambda data, bits: ref.digest(width, data, bits), key)
+    return 0, over(b"".join(fed(empty, hmac_ref.padded(block, pad))
+                            for pad in (hmac_ref.IPAD, hmac_ref.OPAD)), form)
+
+
+def hmac_feed(form, piece, bits, blocks=0):
+    refusal = keyed_refusal(form)
+    if refusal:
+        return refusal, form, blocks
+    inner, outer = halves(form)
+    refusal, inner, blocks = feed(inner, piece, bits, blocks)
+    return refusal, inner + outer, blocks
+
+
+def tag_of(form):
+    """(tag, compressions) of a keyed form."""
+    inner, outer = halves(form)
+    size = parts(inner)[0] // 8
+    _, digest, first = take(inner, bytes(size))
+    _, outer, second = feed(outer, digest, 8 * size)
+    _, tag, third = take(outer, bytes(size))
+    return tag, first + second + third
+
+
+def hmac_take(form, tag, blocks=0):
+    refusal = keyed_refusal(form)
+    if not refusal and len(tag) < parts(halves(form)[0])[0] // 8:
+        refusal = 6
+    if refusal:
+        return refusal, tag, blocks
+    found, count = tag_of(form)
+    return 0, over(found, tag), count
+
+
+def hmac_check(form, tag, right=0):
+    refusal = keyed_refusal(form)
+    return refusal, right if refusal else int(tag_of(form)[0] == tag)
+
+
+def hmac(width, key, message, bits, tag):
+    refusal = width_refusal(width) or key_refusal(key)
+    if not refusal:
+        refusal = piece_refusal(message, bits, ref.block_bits(width))
+    if not refusal and len(tag) < width // 8:
+        refusal = 6
+    if refusal:
+        return refusal, tag
+    return 0, over(hmac_ref.tag(width, key, message, bits), tag)
 
 
 def expand(width, last, block, out):
