@@ -12,7 +12,7 @@ from tally import HERE, Tally, read_bytes
 import door_ref
 import product
 
-LENT = bytes((91 * k + 7) % 256 for k in range(512))
+LENT = bytes((91 * k + 7) % 256 for k in range(600))
 STATE = bytes((59 * k + 3) % 256 for k in range(128))
 NUMBER = 0x0123456789ABCDEF
 
@@ -26,9 +26,13 @@ def read_form(text):
     return form[:size].ljust(size, b"\0")
 
 
+def read_keyed(text):
+    return b"".join(map(read_form, text.split("+")))
+
+
 def arguments(call, field):
     """The arguments, in the order of tests/product.py, from the fields of a line."""
-    lent = {key: LENT[:int(field[key])] for key in ("out", "state", "block") if key in field}
+    lent = {key: LENT[:int(field[key])] for key in ("out", "state", "block", "key", "tag") if key in field}
     width = int(field["width"]) if "width" in field else None
     if call == "open":
         return width, LENT[:int(field["form"])]
@@ -38,6 +42,14 @@ def arguments(call, field):
         return read_form(field["form"]), lent["out"], NUMBER
     if call == "hash":
         return width, read_bytes(field["message"]), int(field["bits"]), lent["out"]
+    if call == "hmac_open":
+        return width, lent["key"], LENT[:int(field["form"])]
+    if call == "hmac_feed":
+        return (read_keyed(field["form"]), read_bytes(field["piece"]), int(field["bits"]), NUMBER)
+    if call in ("hmac_take", "hmac_check"):
+        return read_keyed(field["form"]), lent["tag"], NUMBER
+    if call == "hmac":
+        return width, lent["key"], read_bytes(field["message"]), int(field["bits"]), lent["tag"]
     if call == "expand":
         return width, False, lent["block"], [NUMBER % 2 ** 32 + k for k in range(int(field["out"]))]
     if call in ("steps", "unsteps"):
@@ -49,7 +61,8 @@ def arguments(call, field):
 
 
 # The places, among the arguments, of what each call is lent to write to.
-WRITTEN = {"open": (1,), "feed": (0, 3), "take": (1, 2), "hash": (3,), "expand": (3,),
+WRITTEN = {"open": (1,), "feed": (0, 3), "take": (1, 2), "hash": (3,), "hmac_open": (2,),
+           "hmac_feed": (0, 3), "hmac_take": (1, 2), "hmac_check": (2,), "hmac": (4,), "expand": (3,),
            "steps": (4,), "unsteps": (4,), "compare": (5, 6)}
 
 

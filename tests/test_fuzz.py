@@ -58,7 +58,7 @@ class Calls:
 
     def __init__(self, rng):
         self.rng = rng
-        self.forms = []                  # some that calls returned
+        self.forms, self.keyed_forms = [], []    # some that calls returned
 
     def lent(self, size):
         return self.rng.randbytes(near(self.rng, size))
@@ -66,18 +66,50 @@ class Calls:
     def number(self):
         return self.rng.randrange(2 ** 64)
 
+    def made(self, width, length):
+        """A form of that length, with any state and tail."""
+        size = ref.block_bytes(width)
+        tail = message(self.rng, length % (8 * size)).ljust(size, b"\0")
+        return (width.to_bytes(2, "little") + length.to_bytes(4, "little")
+                + self.rng.randbytes(size) + tail)
+
+    def a_length(self, least):
+        """A bit length, often next to the least one or to the limit."""
+        rng = self.rng
+        return rng.choice((least + rng.randrange(256), rng.randrange(least, LIMIT + 1),
+                           LIMIT - rng.randrange(3000), LIMIT))
+
     def form(self):
         rng = self.rng
         if self.forms and rng.randrange(2):
-            form = bytearray(rng.choice(self.forms))
-        else:
-            width = rng.choice(ref.WIDTHS)
-            size = ref.block_bytes(width)
-            length = rng.choice((rng.randrange(4 * size), rng.randrange(LIMIT + 1),
-                                 LIMIT - rng.randrange(3000), LIMIT))
-            tail = message(rng, length % (8 * size)).ljust(size, b"\0")
-            form = bytearray(width.to_bytes(2, "little") + length.to_bytes(4, "little")
-                             + rng.randbytes(size) + tail)
+            return self.damaged(rng.choice(self.forms))
+        return self.damaged(self.made(rng.choice(ref.WIDTHS), self.a_length(0)))
+
+    def keyed_form(self):
+        """Two forms: most often such as a keyed hash holds, else exchanged, one of them twice, of
+        unequal widths, or of lengths next to those it holds."""
+        rng = self.rng
+        if self.keyed_forms and rng.randrange(2):
+            return self.damaged(rng.choice(self.keyed_forms))
+        width = rng.choice(ref.WIDTHS)
+        key_bits = ref.block_bits(width)
+        inner, outer = self.made(width, self.a_length(key_bits)), self.made(width, key_bits)
+        kind = rng.randrange(12)
+        if kind == 0:
+            inner, outer = rng.choice(((outer, inner), (inner, inner), (outer, outer)))
+        elif kind == 1:
+            outer = self.made(rng.choice(ref.WIDTHS), key_bits)
+        elif kind == 2:
+            inner = self.made(width, rng.choice((0, key_bits - 1, key_bits, key_bits + 1)))
+        elif kind == 3:
+            outer = self.made(width, rng.choice((0, key_bits - 1, key_bits + 1, 2 * key_bits)))
+        elif kind == 4:
+            inner, outer = rng.choice(((self.damaged(inner), outer), (inner, self.damaged(outer))))
+        return self.damaged(inner + outer) if kind > 8 else inner + outer
+
+    def damaged(self, form):
+        """A form, most often as it is."""
+        rng, form = self.rng, bytearray(form)
         kind = rng.randrange(10)
         if kind == 0:                    # a bit changed, or in the last bytes
             place = rng.choice((rng.randrange(len(form)), len(form) - 1 - rng.randrange(8)))
@@ -90,8 +122,11 @@ class Calls:
             form += rng.randbytes(rng.choice((1, 128)))
         return bytes(form)
 
-    def keep(self, form):
-        self.forms = self.forms[-20:] + [form]
+    def keep(self, name, form):
+        if name == "feed":
+            self.forms = self.forms[-20:] + [form]
+        elif name in ("hmac_open", "hmac_feed"):
+            self.keyed_forms = self.keyed_forms[-20:] + [form]
 
     def open(self):
         width = a_width(self.rng)
@@ -107,6 +142,42 @@ class Calls:
     def hash(self):
         width = a_width(self.rng)
         return width, *a_message(self.rng, 300), self.lent(width % 1024 // 8)
+
+    def key(self, size):
+        rng = self.rng
+        return rng.randbytes(rng.choice((0, size - 1, size, size + 1, rng.randrange(300))))
+
+    def hmac_open(self):
+        width = a_width(self.rng)
+        size = block_size(width)
+        return width, self.key(size), self.lent(2 * (6 + 2 * size))
+
+    def hmac_feed(self):
+        return self.keyed_form(), *a_message(self.rng, 300), self.number()
+
+    def hmac_take(self):
+        form = self.keyed_form()
+        return form, self.lent(int.from_bytes(form[:2], "little") % 1024 // 8), self.number()
+
+    def hmac_check(self):
+        """Most often the right tag or one next to it."""
+        rng, form = self.rng, self.keyed_form()
+        if door_ref.keyed_refusal(form) or not rng.randrange(6):
+            return form, self.lent(32), self.number()
+        tag = bytearray(door_ref.tag_of(form)[0])
+        kind = rng.randrange(6)
+        if kind == 0:
+            tag[rng.randrange(len(tag))] ^= 1 << rng.randrange(8)
+        elif kind == 1:
+            tag = tag[:rng.randrange(len(tag))]
+        elif kind == 2:
+            tag += rng.randbytes(rng.choice((1, 32)))
+        return form, bytes(tag), self.number()
+
+    def hmac(self):
+        width = a_width(self.rng)
+        return (width, self.key(block_size(width)), *a_message(self.rng, 300),
+                self.lent(width % 1024 // 8))
 
     def expand(self):
         width = a_width(self.rng)
@@ -136,23 +207,27 @@ class Calls:
         return tape, self.rng.randbytes(self.rng.randrange(257)), self.number(), self.number()
 
 
-NAMES = ("open", "feed", "take", "hash", "expand", "steps", "unsteps", "compare", "tape")
+NAMES = ("open", "feed", "take", "hash", "hmac_open", "hmac_feed", "hmac_take", "hmac_check", "hmac",
+         "expand", "steps", "unsteps", "compare", "tape")
 
 
 def main():
-    rng, count = random_arguments(6, 4000)
+    rng, count = random_arguments(6, 6000)
     tally, calls = Tally("fuzz"), Calls(rng)
-    met = {name: collections.Counter() for name in NAMES}
+    met, verdicts = {name: collections.Counter() for name in NAMES}, collections.Counter()
     for k in range(count):
         name = NAMES[k % len(NAMES)]
         arguments = getattr(calls, name)()
         found = getattr(product, name)(*arguments)
         tally.equal(found, getattr(door_ref, name)(*arguments), "call %d, %s" % (k, name))
         met[name][found[0]] += 1
-        if found[0] == 0 and name == "feed":
-            calls.keep(found[1])
+        if found[0] == 0:
+            calls.keep(name, found[1])
+        if name == "hmac_check" and found[0] == 0:
+            verdicts[found[1]] += 1
     for name in NAMES:
         print("fuzz, %s: %s" % (name, ", ".join("%d: %d" % item for item in sorted(met[name].items()))))
+    print("fuzz, verdicts of hmac_check: %d right, %d not" % (verdicts[1], verdicts[0]))
     return tally.finish("%d calls" % count)
 
 

@@ -1,9 +1,9 @@
 #!/usr/bin/env python3
 """The limit of 4,294,967,295 bits, reached with whole messages.
 
-The messages are zeros in memory that is mapped and never stored.  The tapes
-are one file of 4,096 FULL commands, mapped 4,096 times in a row.  The longest
-digest is compared with that of tests/baseline/portable.c.
+The messages and keys are zeros in memory that is mapped and never stored.  The
+tapes are one file of 4,096 FULL commands, mapped 4,096 times in a row.  The
+longest digests are compared with those of tests/baseline/portable.c.
 """
 
 import ctypes
@@ -13,7 +13,9 @@ import sys
 import tempfile
 
 from tally import Tally
+import hmac_ref
 import product
+import simd_ref as ref
 
 LIMIT = 4294967295
 PAGE = 4096
@@ -27,13 +29,14 @@ libc.mmap.restype = ctypes.c_void_p
 libc.mmap.argtypes = (ctypes.c_void_p, ctypes.c_size_t, ctypes.c_int, ctypes.c_int,
                       ctypes.c_int, ctypes.c_long)
 MAP_FIXED, MAP_NORESERVE = 0x10, 0x4000
+PROT_NONE = 0
 
 
-def map_memory(size, address=None, file=-1):
+def map_memory(size, address=None, file=-1, use=mmap.PROT_READ | mmap.PROT_WRITE):
     flags = mmap.MAP_PRIVATE | MAP_NORESERVE
     flags |= mmap.MAP_ANONYMOUS if file < 0 else 0
     flags |= MAP_FIXED if address else 0
-    found = libc.mmap(address, size, mmap.PROT_READ | mmap.PROT_WRITE, flags, file, 0)
+    found = libc.mmap(address, size, use, flags, file, 0)
     if found in (None, ctypes.c_void_p(-1).value):
         raise OSError(ctypes.get_errno(), "mmap")
     return found
@@ -56,6 +59,13 @@ class Output:
         return bytes(self.bytes), self.first.value, self.second.value
 
 
+def baseline_digest(width, address, bits):
+    baseline = ctypes.CDLL(os.path.join(product.BUILT, "libbaseline.so"))
+    digest = (ctypes.c_uint8 * (width // 8))()
+    baseline.base_hash(width, ctypes.c_void_p(address), ctypes.c_uint64(bits), digest)
+    return bytes(digest)
+
+
 def check_messages(tally):
     door = product.library
     zeros = map_memory(ZEROS)
@@ -63,10 +73,7 @@ def check_messages(tally):
 
     out = Output(64)
     tally.equal(door.simd_hash(512, zeros, 2 ** 29, LIMIT, *out.arguments()), 0, "hash at the limit")
-    expected = Output(64)
-    baseline = ctypes.CDLL(os.path.join(product.BUILT, "libbaseline.so"))
-    baseline.base_hash(512, ctypes.c_void_p(zeros), ctypes.c_uint64(LIMIT), expected.bytes)
-    tally.equal(out.contents(), expected.contents(), "digest at the limit")
+    tally.equal(out.contents()[0], baseline_digest(512, zeros, LIMIT), "digest at the limit")
 
     # (bytes, bits, the byte after the limit, refusal)
     for size, bits, last, refusal in (
@@ -97,6 +104,65 @@ def check_messages(tally):
     tally.equal((found, *out.contents()), (0, b"", 1, 0), "compare at the limit")
 
 
+def check_keys(tally):
+    """Keys of the most bytes, and of one more, which cannot be read."""
+    door, most = product.library, LIMIT // 8
+    zeros, closed = map_memory(ZEROS), map_memory(ZEROS, use=PROT_NONE)
+    hashed = baseline_digest(256, zeros, 8 * most)
+    out = Output(268)
+    tally.equal(door.simd_hmac_open(256, zeros, most, *out.arguments()), 0, "the longest key")
+    tally.equal(out.contents()[0], product.hmac_open(256, hashed, bytes(268))[1], "the longest key, hashed")
+
+    for size in (most + 1, ZEROS):
+        # After 1, before 2, 3 and 4 of a message and before 6.
+        for width, refusal in ((224, 4), (256, 4), (384, 4), (512, 4), (160, 1)):
+            what = "a key of %d bytes at %d" % (size, width)
+            for room in (524, 0):
+                out = Output(room)
+                before = out.contents()
+                found = door.simd_hmac_open(width, closed, size, *out.arguments())
+                tally.equal((found, out.contents()), (refusal, before), what + ": open")
+                for message in ((zeros, 8, 64), (zeros, 8, 65), (zeros, 2 ** 29, LIMIT)):
+                    found = door.simd_hmac(width, closed, size, *message, *out.arguments())
+                    tally.equal((found, out.contents()), (refusal, before), what + ": one call")
+
+
+def check_keyed(tally):
+    """Messages that have the most bits with the key block, and one more."""
+    door = product.library
+    for width in ref.WIDTHS:
+        # The key block stands in front of the message, for the baseline.
+        start, size = map_memory(ZEROS + PAGE), ref.block_bytes(width)
+        key, zeros, most = b"the key of a group", start + PAGE, LIMIT - 8 * size
+        lent = product.const(key)
+        block = hmac_ref.key_block(size, None, key)
+        ctypes.memmove(zeros - size, hmac_ref.padded(block, hmac_ref.IPAD), size)
+        if width == 512:
+            out = Output(64)
+            tally.equal(door.simd_hmac(width, *lent.arguments(), zeros, 2 ** 29, most, *out.arguments()), 0,
+                        "a keyed message at the limit")
+            inner = baseline_digest(width, zeros - size, LIMIT)
+            tag = ref.digest(width, hmac_ref.padded(block, hmac_ref.OPAD) + inner, 8 * size + width)
+            tally.equal(out.contents()[0], tag, "tag at the limit")
+
+        # (bits, the byte after those of one bit more than the most, refusal)
+        for bits, last, refusal in ((most + 1, 0, 4), (most + 2, 0x80, 4), (most + 2, 0xC0, 3),
+                                    (LIMIT, 0, 4), (LIMIT + 1, 0, 4), (2 ** 32 + 1, 0, 4),
+                                    (8 * (2 ** 29 + 1) + 1, 0, 2), (2 ** 64 - 1, 0, 2)):
+            what = "%d bits with a key at %d" % (bits, width)
+            ctypes.c_uint8.from_address(zeros + (most + 1) // 8).value = last
+            for room in (64, 0):
+                out = Output(room)
+                before = out.contents()
+                found = door.simd_hmac(width, *lent.arguments(), zeros, 2 ** 29 + 1, bits, *out.arguments())
+                tally.equal((found, out.contents()), (refusal, before), what + ": one call")
+            form = product.hmac_open(width, key, bytes(2 * (6 + 2 * size)))[1]
+            fed, number = product.Lent(form), product.LentNumber(71)
+            found = door.simd_hmac_feed(*fed.arguments(), zeros, 2 ** 29 + 1, bits, *number.arguments())
+            tally.equal((found, fed.after(), number.after()), (refusal, form, 71), what + ": feed")
+        tally.equal(lent.after(), key, "the key as it was")
+
+
 def check_tapes(tally):
     size = PERIODS * len(PERIOD)
     start = map_memory(PAGE + size + PAGE)
@@ -123,8 +189,10 @@ def check_tapes(tally):
 def main():
     tally = Tally("limit")
     check_messages(tally)
+    check_keys(tally)
+    check_keyed(tally)
     check_tapes(tally)
-    return tally.finish("messages of 4,294,967,295 bits and more")
+    return tally.finish("messages of 4,294,967,295 bits and more, and keys")
 
 
 if __name__ == "__main__":

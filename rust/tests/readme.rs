@@ -12,6 +12,11 @@ let mut hash = simd::Hash::open(512)?;      // also a std::io::Write
 hash.feed_bytes(b"a reading")?;
 hash.feed(&[0b1010_0000], 3)?;              // and three bits more
 println!("{}", hash.take().digest);
+
+let tag = simd::hmac_bytes(256, b"group", b"abc")?;         // a keyed seal
+let mut keyed = simd::Hmac::open(256, b"group")?;           // the same in pieces, also a std::io::Write
+keyed.feed_bytes(b"abc")?;
+println!("{tag} {}", keyed.check(tag.as_bytes()));          // true: exactly the whole tag
 // end
     Ok(())
 }

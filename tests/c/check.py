@@ -1,11 +1,13 @@
 #!/usr/bin/env python3
 """include/simd.h as a file: what compilers say to it, its examples and README's
-as they stand, its texts and version, and the memory that the library uses.
+as they stand, its texts and version, the memory that the library uses, and that
+the instructions of a check do not tell where a tag is wrong.
 
     tests/c/check.py
 
-Needs target/staticlib/libsimd_c.a, gcc, g++, nm and objdump; clang is used
-where it is there.  What the calls do is tried by door.c and the test programs above.
+Needs target/staticlib/libsimd_c.a, gcc, g++, nm, objdump and valgrind; clang is
+used where it is there.  What the calls do is tried by door.c and the test programs
+above.
 """
 
 import os
@@ -18,6 +20,7 @@ HERE = os.path.dirname(os.path.abspath(__file__))
 ROOT = os.path.dirname(os.path.dirname(HERE))
 sys.path.insert(0, os.path.dirname(HERE))
 from tally import Tally  # noqa: E402
+import hmac_ref  # noqa: E402
 import simd_ref as ref  # noqa: E402
 import frames  # noqa: E402
 
@@ -108,7 +111,7 @@ def check_compilers():
         written(os.path.join("stubs", name), "")
     status, text, _ = run(["gcc", "-std=c99", "-E", "-P", "-U__GNUC__", "-nostdinc", "-I" + stubs,
                            INCLUDE, os.path.join(BUILT, "alone.c")])
-    tally.equal((status, text.count("uint8_t simd_"), "__attribute__" in text), (0, 9, False),
+    tally.equal((status, text.count("uint8_t simd_"), "__attribute__" in text), (0, 14, False),
                 "no attributes where they are not known")
 
 
@@ -124,10 +127,13 @@ CARELESS_CALLS = [
     ("-Werror=unused-result", "simd_open(256, form, sizeof form);"),
     ("-Werror=unused-result", "simd_hash(256, form, 1, 8, out, 32);"),
     ("-Werror=unused-result", "simd_tape(form, 1, out, 32, number, number + 1);"),
+    ("-Werror=unused-result", "simd_hmac_check(form, 134, out, 32, number);"),
     ("-Werror=nonnull", "answer = simd_open(256, NULL, 0);"),
     ("-Werror=nonnull", "answer = simd_feed(form, 134, NULL, 0, 0, number);"),
     ("-Werror=nonnull", "answer = simd_hash(256, NULL, 0, 0, out, 32);"),
     ("-Werror=nonnull", "answer = simd_take(form, 134, out, 32, NULL);"),
+    ("-Werror=nonnull", "answer = simd_hmac_open(256, NULL, 0, form, 134);"),
+    ("-Werror=nonnull", "answer = simd_hmac_check(form, 134, NULL, 0, number);"),
     ("-Werror=overflow", "answer = simd_open(65792, form, sizeof form);"),
 ]
 
@@ -144,9 +150,15 @@ def check_warnings():
                 "no warning of a right call")
 
 
+def keyed(key, data):
+    """What the programs print that make a seal of 256 bits, check it, and check it with a message
+    that was changed."""
+    return hmac_ref.module_tag(256, key, data).hex() + " right\nwrong\n"
+
+
 def check_examples():
     found = examples(HEADER)
-    tally.equal(sorted(found), ["stream.c", "vector.cpp", "whole.c"], "the header's examples")
+    tally.equal(sorted(found), ["keyed.c", "stream.c", "vector.cpp", "whole.c"], "the header's examples")
     for name, text in found.items():
         source = written(name, text)
         for compiler in compilers(source):
@@ -155,6 +167,8 @@ def check_examples():
                 continue
             if name == "whole.c":
                 tally.equal(run([built]), (0, digest(256, b"abc"), ""), name)
+            elif name == "keyed.c":
+                tally.equal(run([built]), (0, keyed(b"group", b"abc"), ""), name)
             elif name == "vector.cpp":
                 tally.equal(run([built]), (0, digest(512, b""), ""), name)
             else:
@@ -176,13 +190,14 @@ def check_stream(built):
 
 
 def check_readme():
-    """README's program in C, as it stands."""
+    """README's programs in C, as they stand."""
     texts = fenced(read("README.md"), "c")
-    tally.equal(len(texts), 1, "one program in C")
-    for text in texts:
+    printed = [digest(256, b"abc"), keyed(b"group", b"abc")]
+    tally.equal(len(texts), len(printed), "the programs in C")
+    for text, expected in zip(texts, printed):
         built = program(written("readme.c", text), ["gcc", "-std=c99"])
         if built:
-            tally.equal(run([built]), (0, digest(256, b"abc"), ""), "README's program in C")
+            tally.equal(run([built]), (0, expected, ""), "README's program in C")
 
 
 TEXTS = '''#include <stdio.h>
@@ -251,6 +266,44 @@ def check_frames(measured):
                     % (name, measured[name], most, named[name]))
 
 
+CHECKS = '''#include <stdlib.h>
+#include "simd.h"
+static uint8_t form[SIMD_HMAC_FORM_LARGE], tag[SIMD_DIGEST_MAX];
+int main(int count, char **words)
+{
+    uint16_t width = (uint16_t)(count == 3 ? atoi(words[1]) : 0);
+    int place = count == 3 ? atoi(words[2]) : 0;
+    uint64_t blocks, right = 7;
+    if (simd_hmac_open(width, (const uint8_t *)"key", 3, form, sizeof form)
+        || simd_hmac_take(form, SIMD_HMAC_FORM(width), tag, sizeof tag, &blocks))
+        return 2;
+    if (place >= 0)
+        tag[place] ^= 1;
+    if (simd_hmac_check(form, SIMD_HMAC_FORM(width), tag, SIMD_DIGEST(width), &right))
+        return 2;
+    return right == (place < 0) ? 0 : 1;
+}
+'''
+
+
+def check_time():
+    """A check takes as many instructions wherever a byte of the tag differs, and where none does."""
+    built = program(written("checks.c", CHECKS), ["gcc", "-std=c99"])
+    if not built:
+        return
+    for width in ref.WIDTHS:
+        counts = []
+        for place in (-1, 0, 1, width // 16, width // 8 - 1):
+            # Two digits always: longer words would move the stack, and memcpy goes by alignment.
+            status, _, errors = run(["valgrind", "--tool=callgrind", "--callgrind-out-file=/dev/null",
+                                     "--collect-atstart=no", "--toggle-collect=simd_hmac_check", built,
+                                     str(width), "%02d" % place])
+            tally.equal(status, 0, "a check at %d" % width)
+            counts += re.findall(r"Collected : (\d+)", errors)
+        tally.equal((len(counts), len(set(counts)), "0" in counts), (5, 1, False),
+                    "instructions of checks at %d: %s" % (width, " ".join(counts)))
+
+
 def main():
     os.makedirs(BUILT, exist_ok=True)
     check_compilers()
@@ -259,6 +312,7 @@ def main():
     check_readme()
     check_texts()
     check_memory()
+    check_time()
     return tally.finish()
 
 

@@ -1,6 +1,7 @@
-/* Use of include/simd.h from C: hash, feed in pieces, store, restore, compare,
-   run a tape.  Prints how many answers it checked; the exit status is 0 where
-   all were right.  The digests are those of appendix A. */
+/* Use of include/simd.h from C: hash, feed in pieces, store, restore, seal under
+   a key, compare, run a tape.  Prints how many answers it checked; the exit status
+   is 0 where all were right.  The digests are those of appendix A, the tags those
+   of tests/reference/hmac_ref.py. */
 
 #include <stdio.h>
 #include <string.h>
@@ -27,20 +28,29 @@ static int is_hex(const uint8_t *data, size_t len, const char *hex)
     return strcmp(text, hex) == 0;
 }
 
-/* The message 00 01 .. of one block, and 700 or 1,079 bits of 1. */
+/* The message 00 01 .. of one block, and 700 or 1,079 bits of 1; the tag of these
+   under the key 00 01 .. of one byte more than a block, and that of no bits under
+   an empty key. */
 struct vector {
     uint16_t width;
     const char *block_digest, *ones_digest;
     uint64_t ones;
+    const char *ones_tag, *empty_tag;
 };
 
 static const struct vector VECTORS[] = {
     {256, "5bebdb816cd3e6c8c2b5a42867a6f41570c4b917f1d3b15aabc17f24679e6acd",
-          "e80b4eeb8a370e6ca918e7810400441f6dd0da1eb4559cade791c314f82d524a", 700},
+          "e80b4eeb8a370e6ca918e7810400441f6dd0da1eb4559cade791c314f82d524a", 700,
+          "5b25769239ce0f5b47310280d9f0ee6a6dd9cf876844c2354e00f5bc03a210f2",
+          "347dc33e88a7b86b371110276081a67a928649181d22b46f7fce262866e928ba"},
     {512, "8851ad0a57426b4af57af3294706c0448fa6accf24683fc239871be58ca913fb"
           "ee53e35c1dedd88016ebd131f2eb0761e97a3048de6e696787fd5f54981d6f2c",
           "c060fa9aae2414715a3a27c5df22dbd41469e3d09056b093861f0f6b9bdc311a"
-          "24ac743811e88358dc69094ad444036bbbf7708ed8bdeaf1e8ed871dfb79c218", 1079},
+          "24ac743811e88358dc69094ad444036bbbf7708ed8bdeaf1e8ed871dfb79c218", 1079,
+          "009c1c8a8090811f1bb4c641550c2866e03f1f8a5972a68a94105aeed3e945b9"
+          "e95911bc4802642a6891d58466226c7b91ad7cf36aa9d9da4d1118cefa90ecbd",
+          "6c891206f82e90f4b311c6d15c6e375766c8fd0083f97dc1ef8d0f09dc280035"
+          "d597b068e69f9567aa6975048b89fa61dd70a757e8fa78b4dab5f493df264b3c"},
 };
 
 static void check_hash(const struct vector *v)
@@ -88,6 +98,87 @@ static void check_pieces(const struct vector *v)
               && simd_feed(form, size - 1, ones, sizeof ones, 13, &blocks) == SIMD_REFUSED_FORM
               && memcmp(form, stored, size) == 0,
           "refusals of feed");
+}
+
+/* A key that is hashed first; pieces of 13 bits, the form kept elsewhere between
+   them. */
+static void check_keyed(const struct vector *v)
+{
+    const uint8_t ones[2] = {0xff, 0xf8}, one = 0x80, nothing = 0;
+    uint8_t key[SIMD_BLOCK_LARGE + 1], message[256];
+    uint8_t form[SIMD_HMAC_FORM_LARGE], stored[SIMD_HMAC_FORM_LARGE], tag[SIMD_DIGEST_MAX + 1];
+    size_t key_len = SIMD_BLOCK(v->width) + 1, size = SIMD_HMAC_FORM(v->width);
+    size_t tag_len = SIMD_DIGEST(v->width), k;
+    uint64_t blocks, total = 0, left = v->ones, right;
+    for (k = 0; k < sizeof key; k++)
+        key[k] = (uint8_t)k;
+    memset(message, 0xff, sizeof message);
+    message[v->ones / 8] = (uint8_t)(0xff00 >> v->ones % 8);
+    check(simd_hmac(v->width, key, key_len, message, sizeof message, v->ones, tag, tag_len)
+                  == SIMD_ACCEPTED
+              && is_hex(tag, tag_len, v->ones_tag),
+          "tag in one call");
+    check(simd_hmac(v->width, &nothing, 0, &nothing, 0, 0, tag, tag_len) == SIMD_ACCEPTED
+              && is_hex(tag, tag_len, v->empty_tag),
+          "tag of no bits under an empty key");
+
+    check(simd_hmac_open(v->width, key, key_len, form, sizeof form) == SIMD_ACCEPTED,
+          "open with a key");
+    for (; left >= 13; left -= 13) {
+        check(simd_hmac_feed(form, size, ones, sizeof ones, 13, &blocks) == SIMD_ACCEPTED,
+              "feed to a keyed hash");
+        total += blocks;
+        memcpy(stored, form, size);
+        memset(form, 0, sizeof form);
+        memcpy(form, stored, size);
+    }
+    for (; left > 0; left--) {
+        check(simd_hmac_feed(form, size, &one, 1, 1, &blocks) == SIMD_ACCEPTED,
+              "feed a bit to a keyed hash");
+        total += blocks;
+    }
+    memset(tag, 0x5a, sizeof tag);
+    check(simd_hmac_take(form, size, tag, sizeof tag, &blocks) == SIMD_ACCEPTED
+              && is_hex(tag, tag_len, v->ones_tag) && tag[tag_len] == 0x5a,
+          "take a tag");
+    check(total + blocks == 5, "compressions under a key");
+
+    right = 7;
+    check(simd_hmac_check(form, size, tag, tag_len, &right) == SIMD_ACCEPTED && right == 1,
+          "the tag is right");
+    check(simd_hmac_check(form, size, tag, tag_len - 1, &right) == SIMD_ACCEPTED && right == 0,
+          "a shorter tag is not");
+    right = 7;
+    check(simd_hmac_check(form, size, tag, tag_len + 1, &right) == SIMD_ACCEPTED && right == 0,
+          "a longer tag is not");
+    right = 7;
+    check(simd_hmac_check(form, size, &nothing, 0, &right) == SIMD_ACCEPTED && right == 0,
+          "no tag is not");
+    tag[tag_len - 1] ^= 1;
+    right = 7;
+    check(simd_hmac_check(form, size, tag, tag_len, &right) == SIMD_ACCEPTED && right == 0,
+          "another tag is not");
+    tag[tag_len - 1] ^= 1;
+
+    /* Halves exchanged: the outer one is then longer than a key block. */
+    memcpy(stored, form + size / 2, size / 2);
+    memcpy(stored + size / 2, form, size / 2);
+    right = 7;
+    blocks = 7;
+    check(simd_hmac_check(stored, size, tag, tag_len, &right) == SIMD_REFUSED_HASH && right == 7
+              && simd_hmac_take(stored, size, tag, tag_len, &blocks) == SIMD_REFUSED_HASH
+              && simd_hmac_feed(stored, size, ones, sizeof ones, 13, &blocks) == SIMD_REFUSED_HASH
+              && blocks == 7,
+          "halves exchanged");
+    memcpy(stored, form, size);
+    check(simd_hmac_feed(form, size, ones, sizeof ones, 12, &blocks) == SIMD_REFUSED_SPARE
+              && simd_hmac_feed(form, size, ones, sizeof ones, 17, &blocks) == SIMD_REFUSED_COUNT
+              && simd_hmac_feed(form, size - 1, ones, sizeof ones, 13, &blocks) == SIMD_REFUSED_FORM
+              && simd_hmac_take(form, size, tag, tag_len - 1, &blocks) == SIMD_REFUSED_OUTPUT
+              && simd_hmac_open(v->width, key, key_len, form, size - 1) == SIMD_REFUSED_OUTPUT
+              && simd_hmac_open(v->width + 1, key, key_len, form, size) == SIMD_REFUSED_WIDTH
+              && blocks == 7 && memcmp(form, stored, size) == 0,
+          "refusals under a key");
 }
 
 static void check_steps(const struct vector *v)
@@ -155,6 +246,7 @@ int main(void)
     for (k = 0; k < sizeof VECTORS / sizeof *VECTORS; k++) {
         check_hash(&VECTORS[k]);
         check_pieces(&VECTORS[k]);
+        check_keyed(&VECTORS[k]);
         check_steps(&VECTORS[k]);
         check_compare(&VECTORS[k]);
         check_tape(&VECTORS[k]);

@@ -19,9 +19,9 @@ static ucontext_t outside, inside;
 
 /* What the calls are lent, and what they answer. */
 static uint16_t width;
-static uint8_t form[SIMD_FORM_LARGE], a[LONG], b[LONG], out[LONG];
+static uint8_t form[SIMD_FORM_LARGE], keyed[SIMD_HMAC_FORM_LARGE], a[LONG], b[LONG], out[LONG];
 static uint32_t words[SIMD_WORDS_LARGE];
-static size_t form_len, block_len, tape_len;
+static size_t form_len, keyed_len, key_len, tag_len, block_len, tape_len;
 static uint64_t bits, other_bits, number, second;
 static volatile uint8_t answer;
 
@@ -51,6 +51,36 @@ static void call_hash(void)
 {
     MARK();
     answer = simd_hash(width, a, sizeof a, bits, out, sizeof out);
+}
+
+static void call_hmac_open(void)
+{
+    MARK();
+    answer = simd_hmac_open(width, b, key_len, keyed, sizeof keyed);
+}
+
+static void call_hmac_feed(void)
+{
+    MARK();
+    answer = simd_hmac_feed(keyed, keyed_len, a, sizeof a, bits, &number);
+}
+
+static void call_hmac_take(void)
+{
+    MARK();
+    answer = simd_hmac_take(keyed, keyed_len, out, sizeof out, &number);
+}
+
+static void call_hmac_check(void)
+{
+    MARK();
+    answer = simd_hmac_check(keyed, keyed_len, out, tag_len, &number);
+}
+
+static void call_hmac(void)
+{
+    MARK();
+    answer = simd_hmac(width, b, key_len, a, sizeof a, bits, out, sizeof out);
 }
 
 static void call_expand(void)
@@ -93,13 +123,21 @@ static struct bound {
     {"simd_feed", SIMD_STACK_FEED, 0, call_feed, 0, 0},
     {"simd_take", SIMD_STACK_TAKE, 0, call_take, 0, 0},
     {"simd_hash", SIMD_STACK_HASH, 0, call_hash, 0, 0},
+    {"simd_hmac_open", SIMD_STACK_HMAC_OPEN, 0, call_hmac_open, 0, 0},
+    {"simd_hmac_feed", SIMD_STACK_HMAC_FEED, 0, call_hmac_feed, 0, 0},
+    {"simd_hmac_take", SIMD_STACK_HMAC_TAKE, 0, call_hmac_take, 0, 0},
+    {"simd_hmac_check", SIMD_STACK_HMAC_CHECK, 0, call_hmac_check, 0, 0},
+    {"simd_hmac", SIMD_STACK_HMAC, 0, call_hmac, 0, 0},
     {"simd_expand", SIMD_STACK_EXPAND, 0, call_expand, 0, 0},
     {"simd_steps", SIMD_STACK_STEPS, 0, call_steps, 0, 0},
     {"simd_unsteps", SIMD_STACK_UNSTEPS, 0, call_unsteps, 0, 0},
     {"simd_compare", SIMD_STACK_COMPARE, 0, call_compare, 0, 0},
     {"simd_tape", SIMD_STACK_TAPE, 0, call_tape, 0, 0},
 };
-enum { OPEN, FEED, TAKE, HASH, EXPAND, STEPS, UNSTEPS, COMPARE, TAPE, CALLS };
+enum {
+    OPEN, FEED, TAKE, HASH, HMAC_OPEN, HMAC_FEED, HMAC_TAKE, HMAC_CHECK, HMAC,
+    EXPAND, STEPS, UNSTEPS, COMPARE, TAPE, CALLS
+};
 
 static uint64_t pattern(size_t k)
 {
@@ -166,17 +204,38 @@ static void tape(void)
     tape_len = at;
 }
 
+/* A keyed hash with the key that lies in b, fed twice; tags of all kinds. */
+static void measure_keyed(uint64_t tail, uint64_t count)
+{
+    measure(HMAC_OPEN);
+    message(tail, LONG);
+    measure(HMAC_FEED);
+    measure(HMAC_TAKE);
+    message(count, LONG);
+    measure(HMAC_FEED);
+    measure(HMAC_TAKE);
+    tag_len = width / 8;
+    measure(HMAC_CHECK);
+    out[tag_len - 1] ^= 1;
+    measure(HMAC_CHECK);
+    tag_len--;
+    measure(HMAC_CHECK);
+    measure(HMAC);
+}
+
 int main(void)
 {
     static const uint16_t WIDTHS[] = {224, 256, 384, 512, 160};
     static const uint64_t TAILS[] = {0, 3, 8, 500, 1021};
     static const uint64_t COUNTS[] = {0, 1, 8, 13, 511, 512, 513, 1024, 1031, 8192, 32761, 32768};
-    size_t w, t, c, most = 0;
+    static const size_t KEYS[] = {0, 1, 64, 65, 128, 129, 300, LONG};
+    size_t w, t, c, n, most = 0;
     unsigned wrong = 0;
     int k;
     for (w = 0; w < sizeof WIDTHS / sizeof *WIDTHS; w++) {
         width = WIDTHS[w];
         form_len = SIMD_FORM(width);
+        keyed_len = SIMD_HMAC_FORM(width);
         block_len = SIMD_BLOCK(width);
         for (c = 0; c < sizeof COUNTS / sizeof *COUNTS; c++) {
             message(COUNTS[c], LONG);
@@ -197,6 +256,10 @@ int main(void)
                 message(COUNTS[c], LONG);
                 measure(FEED);
                 measure(TAKE);
+                for (n = 0; n < sizeof KEYS / sizeof *KEYS; n++) {
+                    key_len = KEYS[n];
+                    measure_keyed(TAILS[t], COUNTS[c]);
+                }
             }
         }
         for (bits = 0; bits < 2; bits++) {
@@ -213,7 +276,7 @@ int main(void)
         const struct bound *bound = &BOUNDS[k];
         int right = bound->used <= bound->bound && 4 * bound->bound <= 5 * bound->used
                     && bound->accepted > 0;
-        printf("%-12s %6zu of %6zu bytes of stack, %u calls, %u accepted%s\n", bound->name,
+        printf("%-15s %6zu of %6zu bytes of stack, %u calls, %u accepted%s\n", bound->name,
                bound->used, bound->bound, bound->calls, bound->accepted, right ? "" : ": wrong");
         wrong += !right;
         if (bound->bound > most)
