@@ -1,10 +1,12 @@
-//! The wrapper against the digests of appendix A, and its refusals.
+//! The wrapper against the digests of appendix A and the formula of keyed seals, and its refusals.
 
 use std::fs;
 use std::io::Write;
 use std::path::Path;
 
-use simd::{compare, expand, hash, hash_bytes, steps, tape, Hash, Refusal, Verdict};
+use simd::{
+    compare, expand, hash, hash_bytes, hmac, hmac_bytes, steps, tape, Hash, Hmac, Refusal, Verdict,
+};
 
 const WIDTHS: [u16; 4] = [224, 256, 384, 512];
 
@@ -18,6 +20,17 @@ struct Message {
 fn from_hex(text: &str) -> Vec<u8> {
     (0..text.len() / 2)
         .map(|k| u8::from_str_radix(&text[2 * k..2 * k + 2], 16).unwrap())
+        .collect()
+}
+
+/// Some bits of a byte string, as a piece of their own.
+fn piece_of(data: &[u8], at: u64, count: u64) -> Vec<u8> {
+    (0..count.div_ceil(8))
+        .map(|byte| {
+            (8 * byte..(8 * byte + 8).min(count))
+                .map(|k| (data[((at + k) / 8) as usize] << ((at + k) % 8) & 0x80) >> (k % 8))
+                .sum()
+        })
         .collect()
 }
 
@@ -68,17 +81,7 @@ fn pieces_with_store_and_restore_between() {
             let (mut at, mut blocks) = (0, 0);
             while at < m.bits {
                 let count = size.min(m.bits - at);
-                let piece: Vec<u8> = (0..count.div_ceil(8))
-                    .map(|byte| {
-                        (8 * byte..(8 * byte + 8).min(count))
-                            .map(|k| {
-                                (m.data[((at + k) / 8) as usize] << ((at + k) % 8) & 0x80)
-                                    >> (k % 8)
-                            })
-                            .sum()
-                    })
-                    .collect();
-                blocks += open.feed(&piece, count).unwrap();
+                blocks += open.feed(&piece_of(&m.data, at, count), count).unwrap();
                 open = Hash::restore(open.store()).unwrap();
                 at += count;
             }
@@ -142,9 +145,208 @@ fn refusals() {
     assert_eq!(compare(256, &[0xff], 8, &[], 1), Err(Refusal::Count));
 }
 
+/// The formula of FIPS 198-1 over `hash`, for a message of any count of bits.
+fn formula(width: u16, key: &[u8], data: &[u8], bits: u64) -> Vec<u8> {
+    let size = if width > 256 { 128 } else { 64 };
+    let mut block = if key.len() > size {
+        hash_bytes(width, key).unwrap().to_vec()
+    } else {
+        key.to_vec()
+    };
+    block.resize(size, 0);
+    let padded = |pad: u8| block.iter().map(|byte| byte ^ pad).collect::<Vec<u8>>();
+    let inner = [padded(0x36), data.to_vec()].concat();
+    let inner = hash(width, &inner, 8 * size as u64 + bits).unwrap();
+    hash_bytes(width, &[padded(0x5c), inner.to_vec()].concat())
+        .unwrap()
+        .to_vec()
+}
+
+/// Tags of tests/reference/hmac_ref.py.
+#[test]
+fn tags_of_the_reference() {
+    for (width, tag) in [
+        (
+            224,
+            "d35bf638f445ca7c1cae879006ace41a80cbab62b3620bd4cbaac70b",
+        ),
+        (
+            256,
+            "75e3b543c5d38facac535470f2103abc77a1be105e6dde309fda7b84465a99d9",
+        ),
+        (
+            384,
+            "ca14d26de04067064ee6f61a8a8fec2c27eaebca6785832aa7b55d6ab26bd2fa\
+             823ef1cb85e4389cd3f3e1a12d4fbd27",
+        ),
+        (
+            512,
+            "3ddd80876d94d20e67b0acf7e32f0b3dd5cd66cfb74002645e205ee1e0293220\
+             0b40ff50e6c0d5614201da880c009905cf69f911bee606845dc3f17e24ed20c4",
+        ),
+    ] {
+        let found = hmac_bytes(width, b"a key", b"a reading").unwrap();
+        assert_eq!(found.to_string(), tag);
+        assert_eq!(found.to_vec(), formula(width, b"a key", b"a reading", 72));
+    }
+}
+
+#[test]
+fn keys_and_pieces_with_store_and_restore_between() {
+    let data: Vec<u8> = (0..1000).map(|k| (k * 7 + k / 256) as u8).collect();
+    for width in WIDTHS {
+        let block_bits = if width > 256 { 1024 } else { 512 };
+        for key_len in [0, 1, 63, 64, 65, 127, 128, 129, 256, 300] {
+            let key = &data[500..500 + key_len];
+            for (bits, size) in [(0, 1), (700, 13), (1024, 512), (1079, 1), (4000, 777)] {
+                let message = piece_of(&data, 3, bits);
+                let expected = formula(width, key, &message, bits);
+                let one_call = hmac(width, key, &message, bits).unwrap();
+                assert_eq!(one_call.to_vec(), expected);
+
+                let mut keyed = Hmac::open(width, key).unwrap();
+                let (mut at, mut blocks) = (0, 0);
+                while at < bits {
+                    let count = size.min(bits - at);
+                    blocks += keyed.feed(&piece_of(&message, at, count), count).unwrap();
+                    keyed = Hmac::restore(keyed.store()).unwrap();
+                    at += count;
+                }
+                assert_eq!(keyed.width(), width);
+                assert_eq!(u64::from(keyed.bits()), bits);
+                let taken = keyed.take();
+                assert_eq!(taken.tag.to_vec(), expected);
+                assert_eq!(blocks + taken.blocks, bits.div_ceil(block_bits) + 3);
+                assert_eq!(keyed.take(), taken);
+                assert!(keyed.check(&expected));
+            }
+        }
+    }
+}
+
+#[test]
+fn only_the_whole_tag_is_right() {
+    for width in WIDTHS {
+        let mut keyed = Hmac::open(width, b"a key").unwrap();
+        keyed.feed(b"a reading\xa0", 75).unwrap();
+        let tag = keyed.take().tag.to_vec();
+        assert!(keyed.check(&tag));
+        for len in 0..tag.len() {
+            assert!(!keyed.check(&tag[..len]));
+            for bit in 0..8 {
+                let mut other = tag.clone();
+                other[len] ^= 1 << bit;
+                assert!(!keyed.check(&other));
+            }
+        }
+        for more in [&[0][..], &tag[..1], &tag[..]] {
+            assert!(!keyed.check(&[&tag, more].concat()));
+        }
+        keyed.feed_bytes(b"").unwrap();
+        assert!(keyed.check(&tag));
+        keyed.feed(&[0], 1).unwrap();
+        assert!(!keyed.check(&tag));
+    }
+}
+
+#[test]
+fn writing_is_feeding_a_keyed_hash() {
+    let data: Vec<u8> = (0..1000).map(|k| (k * 7) as u8).collect();
+    for width in WIDTHS {
+        let mut keyed = Hmac::open(width, &data[..99]).unwrap();
+        for piece in data.chunks(37) {
+            keyed.write_all(piece).unwrap();
+        }
+        keyed.flush().unwrap();
+        assert_eq!(
+            keyed.take().tag,
+            hmac_bytes(width, &data[..99], &data).unwrap()
+        );
+    }
+}
+
+/// The key block counts: a hash of a block less than the limit takes no bit more.
+#[test]
+fn writing_past_the_limit_with_the_key_block_is_an_error() {
+    for (width, block_bits) in [(224, 512), (512, 1024)] {
+        let mut form = Hmac::open(width, b"a key").unwrap().store().to_vec();
+        form[2..6].copy_from_slice(&(u32::MAX - 8).to_le_bytes());
+        let mut keyed = Hmac::restore(&form).unwrap();
+        assert_eq!(keyed.write(&[1]).unwrap(), 1);
+        assert_eq!(keyed.bits(), u32::MAX - block_bits);
+        let before = keyed.store().to_vec();
+        let error = keyed.write(&[1]).unwrap_err();
+        let inner = error.into_inner().unwrap();
+        assert_eq!(inner.downcast_ref::<Refusal>(), Some(&Refusal::Total));
+        assert_eq!(keyed.feed(&[0x80], 1), Err(Refusal::Total));
+        assert_eq!(keyed.store(), before);
+        assert_eq!(keyed.write(&[]).unwrap(), 0);
+    }
+}
+
+#[test]
+fn refusals_of_keyed_hashes() {
+    assert_eq!(Hmac::open(255, b"").unwrap_err(), Refusal::Width);
+    assert_eq!(hmac(255, b"", &[0xff], 7), Err(Refusal::Width));
+    assert_eq!(hmac(256, b"", &[0xff], 7), Err(Refusal::Spare));
+    assert_eq!(hmac(256, b"", &[0xff], 9), Err(Refusal::Count));
+    let refused = |form: &[u8]| Hmac::restore(form).unwrap_err();
+    assert_eq!(refused(&[]), Refusal::Form);
+    assert_eq!(refused(&[0; 3]), Refusal::Form);
+    assert_eq!(refused(&[0; 4]), Refusal::Width);
+
+    for (width, other, len) in [
+        (224, 256, 268),
+        (256, 224, 268),
+        (384, 512, 524),
+        (512, 384, 524),
+    ] {
+        let mut keyed = Hmac::open(width, b"a key").unwrap();
+        keyed.feed_bytes(b"a reading").unwrap();
+        let form = keyed.store().to_vec();
+        assert_eq!(form.len(), len);
+        assert_eq!(refused(&form[..len - 1]), Refusal::Form);
+        assert_eq!(refused(&form[..len / 2]), Refusal::Form);
+        assert_eq!(refused(&[&form[..], &[0]].concat()), Refusal::Form);
+        assert_eq!(refused(&[0; 600]), Refusal::Width);
+        for last in [len / 2 - 1, len - 1] {
+            let mut damaged = form.clone();
+            damaged[last] = 1;
+            assert_eq!(refused(&damaged), Refusal::Tail);
+        }
+        let (inner, outer) = form.split_at(len / 2);
+        assert_eq!(refused(&[outer, inner].concat()), Refusal::Hash);
+        let foreign = Hmac::open(other, b"a key").unwrap();
+        let (_, foreign) = foreign.store().split_at(len / 2);
+        assert_eq!(refused(&[inner, foreign].concat()), Refusal::Hash);
+        let short = Hash::open(width).unwrap();
+        assert_eq!(refused(&[short.store(), outer].concat()), Refusal::Hash);
+        assert_eq!(refused(&[inner, short.store()].concat()), Refusal::Hash);
+
+        assert_eq!(keyed.feed(&[0xff], 9), Err(Refusal::Count));
+        assert_eq!(keyed.feed(&[0xff], 7), Err(Refusal::Spare));
+        assert_eq!(keyed.store(), form);
+    }
+}
+
+/// A clone goes its own way, and `Debug` shows no byte of the form.
+#[test]
+fn clones_and_text_of_keyed_hashes() {
+    let mut keyed = Hmac::open(256, b"a key").unwrap();
+    keyed.feed(&[0xa0], 3).unwrap();
+    let mut other = keyed.clone();
+    assert_eq!(other.store(), keyed.store());
+    other.feed_bytes(b"more").unwrap();
+    assert_eq!(keyed.take().tag, hmac(256, b"a key", &[0xa0], 3).unwrap());
+    assert_ne!(keyed.take().tag, other.take().tag);
+    drop(other);
+    assert_eq!(format!("{keyed:?}"), "Hmac { width: 256, bits: 3, .. }");
+}
+
 #[test]
 fn refusals_have_numbers_and_words() {
     assert_eq!(Refusal::Width.number(), 1);
+    assert_eq!(Refusal::Hash.number(), 5);
     assert_eq!(Refusal::Output.number(), 6);
     assert_eq!(Refusal::Order.number(), 12);
     assert_eq!(Refusal::Output.to_string(), "the output is too short");
@@ -258,5 +460,5 @@ fn texts_are_those_of_the_header() {
             found += 1;
         }
     }
-    assert_eq!(found, 11);
+    assert_eq!(found, 12);
 }
