@@ -3,9 +3,11 @@
      bench                               a line of figures for each task
      bench lengths WIDTH BYTES..         cycles for a message of each length
      bench feeds WIDTH BITS..            cycles for a feed of so many bits
+     bench seals WIDTH                   cycles for a long message, hashed and sealed under a key
      bench count TASK WHO                runs a task once, in the function `counted`
      bench count-length WIDTH BYTES WHO  the same for one message
      bench count-feeds WIDTH BITS        the same for FEEDS feeds
+     bench count-seals WIDTH KEYED       the same for a long message, hashed (0) or sealed (1)
 
    The figures of a task are taken in turns: library, portable, sse2, and again;
    of each the best time of all turns is kept. */
@@ -25,6 +27,7 @@ void sse2_compress(int large, int last, uint32_t *state, const uint8_t *block);
 enum { LONG = 1 << 16, SHORT = 64, SHORTS = 256, TURNS = 200, FEEDS = 1024 };
 enum { LIBRARY, PORTABLE, SSE2, WHO };
 
+static const uint8_t key[32] = "a key of 32 bytes, as many have";
 static uint8_t message[LONG + 1], other[LONG + 1], another[LONG + 1], out[SIMD_DIGEST_MAX];
 static uint8_t form[SIMD_FORM_LARGE], fresh[SIMD_FORM_LARGE];
 static uint64_t number, verdict;
@@ -125,6 +128,16 @@ static void shorts(int who, int width)
         hash_with(who, width, message + k, SHORT);
 }
 
+/* The whole message under a key; the baselines hash it. */
+static void keyed(int who, int width)
+{
+    if (who == LIBRARY)
+        refused(simd_hmac((uint16_t)width, key, sizeof key, message, LONG, 8 * (uint64_t)LONG,
+                          out, sizeof out));
+    else
+        hash_with(who, width, message, LONG);
+}
+
 /* Two long messages; the baselines hash both. */
 static void compare_with(int who, int width, const uint8_t *second)
 {
@@ -171,6 +184,15 @@ static void feed_again(int who, int width)
         refused(simd_feed(form, size, zeros, sizeof zeros, feed_bits, &number));
 }
 
+/* The library alone: the whole message, hashed and under a key. */
+static void hashed_or_keyed(int with_key, int width)
+{
+    if (with_key)
+        keyed(LIBRARY, width);
+    else
+        whole(LIBRARY, width);
+}
+
 struct task {
     const char *name;
     void (*run)(int who, int width);
@@ -179,6 +201,7 @@ struct task {
 
 static const struct task TASKS[] = {
     {"long message, one call", whole, LONG},
+    {"long message under a key, one call", keyed, LONG},
     {"long piece, no tail", feed_aligned, LONG},
     {"long piece, tail of 8 bits", feed_byte, LONG},
     {"long piece, tail of 3 bits", feed_odd, LONG},
@@ -189,6 +212,7 @@ static const struct task TASKS[] = {
 enum { COUNT = sizeof TASKS / sizeof *TASKS };
 static const struct task ONE_LENGTH = {"one message", one_length, 0};
 static const struct task FEED_AGAIN = {"feeds", feed_again, 0};
+static const struct task SEAL = {"hashed or keyed", hashed_or_keyed, 0};
 static const int WIDTHS[] = {256, 512};
 
 static double seconds(void)
@@ -270,6 +294,13 @@ static void feeds(int width, int count, char **bits)
     }
 }
 
+static void seals(int width)
+{
+    uint64_t cycles[2];
+    best_cycles(&SEAL, width, 2, cycles);
+    printf("%llu|%llu\n", (unsigned long long)cycles[0], (unsigned long long)cycles[1]);
+}
+
 void counted(const struct task *task, int who, int width);
 
 __attribute__((noinline)) void counted(const struct task *task, int who, int width)
@@ -325,6 +356,14 @@ int main(int argc, char **argv)
         prepare(width);
         feed_bits = strtoull(argv[3], NULL, 10);
         counted(&FEED_AGAIN, LIBRARY, width);
+        return 0;
+    }
+    if (argc == 4 && strcmp(argv[1], "count-seals") == 0) {
+        counted(&SEAL, atoi(argv[3]), atoi(argv[2]));
+        return 0;
+    }
+    if (argc == 3 && strcmp(argv[1], "seals") == 0) {
+        seals(atoi(argv[2]));
         return 0;
     }
     if (argc > 3 && strcmp(argv[1], "lengths") == 0) {

@@ -376,10 +376,9 @@ SIMD_CALL uint8_t simd_hash(uint16_t width, const uint8_t *message, size_t messa
 
 /* KEYED SEALS
 
-   HMAC of FIPS 198-1 over the digest of the width.  A key is whole bytes, in any
-   number: one that is longer than SIMD_BLOCK(width) bytes is hashed first, one of
-   exactly so many is not, and an empty one is allowed.  A tag has
-   SIMD_DIGEST(width) bytes.
+   HMAC of FIPS 198-1 over the digest of the width.  A key is 0 to 536,870,911
+   whole bytes: one that is longer than SIMD_BLOCK(width) bytes is hashed first, one
+   of exactly so many is not.  A tag has SIMD_DIGEST(width) bytes.
 
    A keyed hash is held by the caller as its keyed form, SIMD_HMAC_FORM(width)
    bytes: the stored form of the inner hash, which has taken the key block and what

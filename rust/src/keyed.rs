@@ -8,7 +8,7 @@ const HMAC_FORM_MAX: usize = 2 * FORM_MAX;
 
 /// A keyed hash: HMAC of FIPS 198-1 over the digest of its width.
 ///
-/// A key is whole bytes, in any number. Pieces of the message are fed as to a
+/// A key is 0 to 536,870,911 whole bytes. Pieces of the message are fed as to a
 /// [`Hash`](crate::Hash):
 ///
 /// ```
@@ -83,8 +83,7 @@ fn take(form: &[u8]) -> Result<TakenTag, Refusal> {
 }
 
 impl Hmac {
-    /// Opens a keyed hash. A key that is longer than a block, 64 or 128 bytes, is hashed first; an
-    /// empty one is allowed.
+    /// Opens a keyed hash. A key that is longer than a block, 64 or 128 bytes, is hashed first.
     ///
     /// Refused: [`Refusal::Width`], [`Refusal::Total`].
     pub fn open(width: u16, key: &[u8]) -> Result<Hmac, Refusal> {

@@ -47,7 +47,8 @@ use std::io;
 pub use keyed::{hmac, hmac_bytes, Hmac, TakenTag};
 pub use refusal::{Refusal, TapeRefusal};
 
-/// The most bits of a message.
+/// The most bits of a message; of a keyed hash, of its key, and of its message with one block for the
+/// key.
 pub const BITS_MAX: u64 = 4_294_967_295;
 
 const FORM_MAX: usize = 262;
