@@ -65,10 +65,10 @@ module _ (w : ℕ) (key : List ℕ) (r : ℕ) (same : r ≡ keyRefusal w (length
 -- Fed.
 fed-both : (r : ℕ) (k : Hmac) (m : List ℕ)
     → record {
-        hmac = record { inner = hashFed r (k .inner) m .hash; outer = k .outer };
-        blocks = hashFed r (k .inner) m .blocks;
-        refusal = hashFed r (k .inner) m .refusal;
-      }
+      hmac = record { inner = hashFed r (k .inner) m .hash; outer = k .outer };
+      blocks = hashFed r (k .inner) m .blocks;
+      refusal = hashFed r (k .inner) m .refusal;
+    }
     ≡ fed r k m
 unfolding hashFed fed
 fed-both zero k m = refl

@@ -53,7 +53,7 @@ over-zeros n l within =
     let zeros : List ℕ = drop (length l) (replicate n 0) in
     let rest : length zeros ≡ n - length l = length-drop (length l) (replicate n 0) ∙ ap (λ m. m - length l) (length-replicate n 0) in
     let clean = all-zero zeros
-        (λ i below. getD-drop (length l) (replicate n 0) i 0 ∙ getD-replicate n (length l + i) 0 0 (omega (arith, rest))) in
+    (λ i below. getD-drop (length l) (replicate n 0) i 0 ∙ getD-replicate n (length l + i) 0 0 (omega (arith, rest))) in
     sym (padded-take n (length l) (l ++ zeros) (omega (arith, length-append l zeros, rest)) (rw (drop-append-seam l zeros) clean))
     ∙ ap (padded n) (take-append-seam l zeros)
 

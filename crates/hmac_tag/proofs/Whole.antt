@@ -111,8 +111,7 @@ module _ (w : ℕ) (key bytes : List ℕ) (count : ℕ) (out : List ℕ) {o : Op
             → Seals w key bytes count out (t .refusal) left
         unfolding takeAnswer
         tag-taken taking wrote =
-            let text = ap tagOf whole-is ∙ after-tag w (accepted .0) key (accepted .1) m bit in
-            (
+            let text = ap tagOf whole-is ∙ after-tag w (accepted .0) key (accepted .1) m bit in (
               ap (λ (t : Taken). t .refusal) taking ∙ taken-refusal (takeRefusal (f .hmac) out) (f .hmac) ∙ last-refusal,
               wrote ∙ (λ i. written (last-refusal i) (text i) out),
             )
