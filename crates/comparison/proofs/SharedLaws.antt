@@ -2,11 +2,8 @@
 use mathlib.Core.Bool.{Bool, true, false}
 use mathlib.Core.List.{List, _++_}
 use mathlib.Core.Path.{_≡_, refl, sym, ap, _∙_}
-use Prim.Native.Nat.{ℕ, zero, suc, _+_, _-_, _/_, _%_, _<_, _≤_, min}
+use Prim.Native.Nat.{ℕ, _+_, _-_, _/_, _%_, _<_, _≤_, min}
 use native.Mathlib.Omega.{arith}
-use borrow.Author.Count.{below-more}
-use lib.Bits.{bitXor, bitOr, bitAnd, xor-self, xor-add-and, or-add-and, and-le-l, and-le-r, or-zero-l}
-use lib.Dec.{eqb, eqb·suc-zero}
 use lib.ListN.{length, getD, take, drop, take-append-drop}
 use lib.Seq.{take-add, ext-getD}
 use Rattle.simd.specs.Basic.{Family, small, large, blockBytes}
@@ -19,7 +16,7 @@ use Rattle.hash.proofs.Feeding.{length-message}
 use Rattle.pairs.specs.Lists.{equal}
 use Rattle.pairs.specs.Used.{Used}
 use Rattle.pairs.proofs.RefusalLaws.{accepted}
-use Rattle.pairs.proofs.ListLaws.{same-equal, not-equal, equal-all, equal-true, equal-false}
+use Rattle.pairs.proofs.ListLaws.{same-equal, not-equal, equal-true, equal-false}
 use Rattle.comparison.specs.Shared.{Shared}
 
 -- The leading blocks: none, and one more.

@@ -1,3 +1,4 @@
+pub mod Cutting
 pub mod Held
 pub mod Advanced
 pub mod Storing

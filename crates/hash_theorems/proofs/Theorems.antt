@@ -7,7 +7,7 @@ use native.Mathlib.Nat.{zero-add}
 use native.Mathlib.Omega.{arith}
 use borrow.Author.Tests.{le-leb}
 use lib.Dec.{eqb, eqb·suc-zero}
-use lib.ListN.{length, getD, take, drop, length-take, length-append, List·getD-eq-default}
+use lib.ListN.{length, getD, take, drop, length-take, List·getD-eq-default}
 use lib.Seq.{take-all, getD-take, ext-getD}
 use native.Mathlib.Decide.{decLt}
 use Rattle.simd.specs.Basic.{Family, small, large, familyOf, isWidth, blockBits, bytesOf, table, digestBytes}
@@ -16,50 +16,32 @@ use Rattle.simd.specs.Message.{bitsOf, byteOf, message, messageBlocks, lengthBl
 use Rattle.simd.specs.Steps.{compression}
 use Rattle.simd.specs.Hash.{chain, final, finalState, digest, compressions}
 use Rattle.laws.proofs.Table.{length-table}
-use Rattle.laws.proofs.Bits.{Bits, bits-append, bitsOf-bytes, length-bitsOf}
+use Rattle.laws.proofs.Bits.{Bits, bitsOf-bytes, length-bitsOf}
 use Rattle.bits.specs.Zero.{allZero, clear}
 use Rattle.hash.specs.Open.{limit, family, used, reached, pending, holding, legal, openRefusal, opened, openAnswer}
 use Rattle.hash.specs.Open.{fullBlocks, advanced, feedAnswer, finalOf, digestOf, takeRefusal, taken, takeAnswer, written}
 use Rattle.hash.specs.declared.Hash.{Hash}
 use Rattle.hash.specs.declared.Opened.{Opened}
-use Rattle.hash.specs.declared.Fed.{Fed}
 use Rattle.hash.specs.Form.{formOf, hashOf, restoreRefusal, restoreAnswer}
 use Rattle.bits.proofs.Zeros.{clear-of}
 use Rattle.hash.proofs.Holding.{Sized, Value}
+pub use Rattle.hash_theorems.proofs.Cutting.{Piece, joined, Wholes, bits-joined, Answer, inTurn, Feeding, all-joined}
 use Rattle.hash_theorems.proofs.Held.{long, held-state, held-tail, held-legal}
-use Rattle.hash.proofs.Feeding.{Whole, fed-whole, length-message, bits-message, start-length}
+use Rattle.hash.proofs.Feeding.{Whole, fed-whole, start-length}
 use Rattle.hash_theorems.proofs.Advanced.{held-sized, advanced-sized, advanced-bits, advanced-legal, advanced-append}
 use Rattle.hash_theorems.proofs.Advanced.{advanced-none, blocks-append, none-full, final-advanced, message-blocks}
 use Rattle.hash.proofs.Digests.{digest-length}
 use Rattle.hash_parts.proofs.Accepted.{form-facts}
 use Rattle.hash_theorems.proofs.Storing.{form-hash, form-accepted, read-legal, read-value, read-form}
 
--- A cutting: pieces, the message that they make, and the answer to feeding them one after the other. Its blocks and its refusal are sums over
--- the pieces, so that a refusal of 0 says that no piece was refused.
-pub record Piece : Type 0 where
-  pub bytes : List ℕ
-  pub count : ℕ
+-- An open hash fed a piece, and all pieces of a cutting.
+unfoldable pub feedPiece : Hash → Piece → Answer Hash
+feedPiece h p =
+    let a = feedAnswer h (p .bytes) (p .count) in
+    record { left = a .hash; blocks = a .blocks; refusal = a .refusal }
 
-unfoldable pub joined : List Piece → List ℕ
-joined [] = []
-joined (p ∷ ps) = message (p .bytes) (p .count) ++ joined ps
-
-unfoldable pub feedAll : Hash → List Piece → Fed
-feedAll h [] = record { hash = h; blocks = 0; refusal = 0 }
-feedAll h (p ∷ ps) =
-    let first = feedAnswer h (p .bytes) (p .count) in
-    let rest = feedAll (first .hash) ps in
-    record { hash = rest .hash; blocks = first .blocks + rest .blocks; refusal = first .refusal + rest .refusal }
-
--- Every piece has its count within its bytes, and no bit set past the count.
-abbrev pub Wholes : List Piece → Type 0
-Wholes [] = Unit {0}
-Wholes (p ∷ ps) = Whole (p .bytes) (p .count) × Wholes ps
-
-pub bits-joined : (ps : List Piece) → Bits (joined ps)
-unfolding joined
-bits-joined [] = λ i. omega arith
-bits-joined (p ∷ ps) = bits-append (message (p .bytes) (p .count)) (joined ps) (bits-message (p .bytes) (p .count)) (bits-joined ps)
+abbrev pub feedAll : Hash → List Piece → Answer Hash
+feedAll h ps = inTurn feedPiece h ps
 
 none-used : (f : Family) → 0 ≡ 0 % blockBits f
 none-used small = refl
@@ -73,31 +55,42 @@ unfolding fullBlocks
 no-blocks h = none-full (family h) (h .bits)
 
 -- Feeding pieces one after the other is feeding their bits joined, from any legal hash, whether or not a message reaches it.
+pub record Fit (h : Hash) (n : ℕ) : Type 0 where
+  pub sized : Sized h
+  pub good : legal h ≡ true
+  pub short : h .bits + n ≤ limit
+
+feed-once : (h : Hash) (p : Piece) → Whole (p .bytes) (p .count) → Fit h (p .count)
+    → feedPiece h p
+    ≡ record { left = advanced h (message (p .bytes) (p .count)); blocks = fullBlocks h (length (message (p .bytes) (p .count))); refusal = 0 }
+unfolding feedPiece
+feed-once h p whole fit = rw (fed-whole h (p .bytes) (p .count) (fit .good) whole (fit .short))
+
+pub hash-feeding : Feeding (λ (h : Hash). h) feedPiece advanced fullBlocks Fit
+hash-feeding =
+    record {
+      once = feed-once;
+      fewer = λ h m n fit. record { sized = fit .sized; good = fit .good; short = omega (arith, fit .short) };
+      ready = λ h m n bit fit.
+          record {
+            sized = advanced-sized h (long (fit .sized)) m bit;
+            good = advanced-legal h (long (fit .sized)) m bit (fit .good);
+            short = omega (arith, fit .short, advanced-bits h m);
+          };
+      none = λ h fit. (advanced-none h (fit .sized) (fit .good), no-blocks h);
+      joins = λ h m n bit fit. (advanced-append h (long (fit .sized)) m n bit, sym (blocks-append h m n));
+    }
+
 pub feed-all : (h : Hash) → Sized h → legal h ≡ true → (ps : List Piece) → Wholes ps → h .bits + length (joined ps) ≤ limit
-    → feedAll h ps ≡ record { hash = advanced h (joined ps); blocks = fullBlocks h (length (joined ps)); refusal = 0 }
-unfolding feedAll joined
-feed-all h s good [] whole short =
-    let same = sym (advanced-none h s good) in
-    let none = sym (no-blocks h) in
-    λ i. record { hash = same i; blocks = none i; refusal = 0 }
-feed-all h s good (p ∷ ps) whole short =
-    let m = message (p .bytes) (p .count) in
-    let size = length-message (p .bytes) (p .count) (whole .0 .within) in
-    let both = length-append m (joined ps) in
-    let bit = bits-message (p .bytes) (p .count) in
-    let first = fed-whole h (p .bytes) (p .count) good (whole .0) (omega arith) in
-    let left : advanced h m .bits + length (joined ps) ≤ limit = omega (arith, advanced-bits h m) in
-    let rest = feed-all (advanced h m) (advanced-sized h (long s) m bit) (advanced-legal h (long s) m bit good) ps (whole .1) left in
-    let hash = advanced-append h (long s) m (joined ps) bit in
-    let blocks = sym (blocks-append h m (joined ps)) in
-    rw (first, rest) (λ i. record { hash = hash i; blocks = blocks i; refusal = 0 })
+    → feedAll h ps ≡ record { left = advanced h (joined ps); blocks = fullBlocks h (length (joined ps)); refusal = 0 }
+feed-all h s good ps whole short = all-joined hash-feeding h ps whole (record { sized = s; good = good; short = short })
 
 -- Two pieces, one after the other, are a piece of their bits joined.
 pub feed-twice : (h : Hash) → Sized h → legal h ≡ true → (p q r : Piece) → Wholes (p ∷ q ∷ []) → Wholes (r ∷ [])
     → joined (p ∷ q ∷ []) ≡ joined (r ∷ []) → h .bits + length (joined (r ∷ [])) ≤ limit → feedAll h (p ∷ q ∷ []) ≡ feedAll h (r ∷ [])
 feed-twice h s good p q r two one same short =
     feed-all h s good (p ∷ q ∷ []) two (rw same short)
-    ∙ (λ i. record { hash = advanced h (same i); blocks = fullBlocks h (length (same i)); refusal = 0 })
+    ∙ (λ i. record { left = advanced h (same i); blocks = fullBlocks h (length (same i)); refusal = 0 })
     ∙ sym (feed-all h s good (r ∷ []) one short)
 
 -- Every message is a piece: its bytes, with zeros past its end, and its length.
@@ -211,20 +204,20 @@ take-blocks h out good room =
 -- From any legal hash, whether or not a message reaches it: the final state is worked out from its state, its tail, its bit length and the
 -- bits fed.
 pub from-any : (h : Hash) → Sized h → legal h ≡ true → (ps : List Piece) → Wholes ps → h .bits + length (joined ps) ≤ limit
-    → finalOf (feedAll h ps .hash)
+    → finalOf (feedAll h ps .left)
     ≡ compression (family h) true
     (chain (family h) (reached h) (pending h ++ joined ps) (messageBlocks (family h) (length (pending h ++ joined ps))))
     (lengthBlock (family h) (h .bits + length (joined ps)))
 from-any h s good ps whole short =
-    ap (λ (a : Fed). finalOf (a .hash)) (feed-all h s good ps whole short) ∙ final-advanced h (long s) (joined ps) (bits-joined ps)
+    ap (λ (a : Answer Hash). finalOf (a .left)) (feed-all h s good ps whole short) ∙ final-advanced h (long s) (joined ps) (bits-joined ps)
 
 -- Opened at a width, fed the pieces of any cutting of any message of at most the limit's bits, and taken: no piece is refused, the digest is
 -- the message's, and the blocks of the feeds and of the take are the message's compressions.
-pub record Hashed (width : ℕ) (m : List ℕ) (a : Fed) (out : List ℕ) : Type 0 where
+pub record Hashed (width : ℕ) (m : List ℕ) (a : Answer Hash) (out : List ℕ) : Type 0 where
   pub accepted : a .refusal ≡ 0
-  pub answered : takeAnswer (a .hash) out .refusal ≡ 0
-  pub bytes : written (takeRefusal (a .hash) out) (digestOf (a .hash)) out ≡ digest width m ++ drop (digestBytes width) out
-  pub blocks : a .blocks + takeAnswer (a .hash) out .blocks ≡ compressions (familyOf width) (length m)
+  pub answered : takeAnswer (a .left) out .refusal ≡ 0
+  pub bytes : written (takeRefusal (a .left) out) (digestOf (a .left)) out ≡ digest width m ++ drop (digestBytes width) out
+  pub blocks : a .blocks + takeAnswer (a .left) out .blocks ≡ compressions (familyOf width) (length m)
 
 -- That hash after bits were fed.
 module _ (width : ℕ) (known : isWidth width ≡ true) (m : List ℕ) (bit : Bits m) where
@@ -260,7 +253,7 @@ module _ (width : ℕ) (known : isWidth width ≡ true) (m : List ℕ) (bit : Bi
       omega (arith, alone)
 
   module _ (out : List ℕ) (room : width / 8 ≤ length out) where
-    after-hashed : Hashed width m (record { hash = after; blocks = fullBlocks (first width) (length m); refusal = 0 }) out
+    after-hashed : Hashed width m (record { left = after; blocks = fullBlocks (first width) (length m); refusal = 0 }) out
     unfolding written
     after-hashed =
         let fits : after .width / 8 ≤ length out = rw after-width room in

@@ -11,7 +11,7 @@ use Rattle.simd.specs.Basic.{familyOf, isWidth, blockBytes, digestBytes}
 use Rattle.simd.specs.Message.{message}
 use Rattle.simd.specs.Hash.{compressions}
 use Rattle.bits.specs.Zero.{padded}
-use Rattle.hash.specs.Open.{limit, family, used, fed as hashFed, feedRefusal as hashRefusal, feedAnswer as hashAnswer, legal as hashLegal, pieceRefusal, written}
+use Rattle.hash.specs.Open.{limit, family, used, fed as hashFed, feedRefusal as hashRefusal, feedAnswer as hashAnswer, written}
 use Rattle.hash.specs.declared.Hash.{Hash}
 use Rattle.hash.specs.declared.Fed.{Fed as HashFed}
 use Rattle.hash.proofs.Refusing.{passed, written-refused}

@@ -2,7 +2,7 @@
 use mathlib.Core.Bool.{true, false, cond}
 use mathlib.Core.List.{List, [], _++_, append-assoc, append-nil}
 use mathlib.Core.Path.{_≡_, refl, sym, ap, _∙_}
-use Prim.Native.Nat.{ℕ, zero, suc, _+_, _*_, _-_, _/_, _≤_}
+use Prim.Native.Nat.{ℕ, _+_, _*_, _-_, _≤_}
 use native.Mathlib.Omega.{arith}
 use borrow.Author.Tests.{leb-true, le-leb}
 use borrow.Rule.Slice.PartMut.{midOf, postOf, putMid}
@@ -10,8 +10,8 @@ use lib.Dec.{leb}
 use lib.ListN.{length, take, drop, length-drop, length-append, drop-of-length-le}
 use lib.Seq.{take-at, drop-at, take-all, drop-drop}
 use Rattle.simd.specs.Basic.{familyOf}
-use Rattle.hash.specs.Open.{family, legal as hashLegal, first, written}
-use Rattle.hash.specs.Form.{formBytes, formOf, storeRefusal as hashRefusal, storeAnswer as hashAnswer, restoreAnswer as restored}
+use Rattle.hash.specs.Open.{family, legal as hashLegal, written}
+use Rattle.hash.specs.Form.{formBytes, formOf, storeRefusal as hashRefusal, restoreAnswer as restored}
 use Rattle.hash.specs.declared.Hash.{Hash}
 use Rattle.hash.specs.declared.Opened.{Opened as HashOpened}
 use Rattle.hash.proofs.Refusing.{passed, first-refused, first-accepted, written-refused, written-accepted}
@@ -23,7 +23,6 @@ use Rattle.hmac.specs.Keyed.{legal, width, noHmac, opened}
 use Rattle.hmac.specs.Form.{keyedForm, storeRefusal, storeAnswer, front, back, hmacOf, keyedRefusal, restoreAnswer}
 use Rattle.hmac.specs.declared.Hmac.{Hmac}
 use Rattle.hmac.specs.declared.Opened.{Opened}
-use Rattle.hmac.specs.declared.Stored.{Stored}
 use Rattle.hmac.proofs.Answers.{refused-none}
 
 -- A hash stored with room for it.

@@ -1,18 +1,18 @@
 -- The tag of two hashes: the inner one's digest is less than a block, so that the outer one, which holds exactly a block, compresses nothing when it
 -- is fed and two blocks when it is taken.
-use mathlib.Core.Bool.{true, cond}
-use mathlib.Core.List.{List, _++_}
-use mathlib.Core.Path.{_≡_, refl, sym, ap, _∙_}
-use Prim.Native.Nat.{ℕ, zero, suc, _+_, _*_, _-_, _/_, _%_, _<_, _≤_}
+use mathlib.Core.Bool.{true}
+use mathlib.Core.List.{List}
+use mathlib.Core.Path.{_≡_, ap, _∙_}
+use Prim.Native.Nat.{ℕ, _+_, _*_, _-_, _/_, _%_, _<_, _≤_}
 use native.Mathlib.Omega.{arith}
 use borrow.Author.Tests.{ne-eqb}
-use lib.Dec.{eqb, lit<}
-use lib.ListN.{length, take, drop, replicate}
+use lib.Dec.{lit<}
+use lib.ListN.{length, take, replicate}
 use lib.Seq.{take-at}
 use Rattle.simd.specs.Basic.{Family, small, large, familyOf, isWidth, blockBits, digestBytes}
 use Rattle.simd.specs.Message.{bitsOf, messageBlocks}
 use Rattle.simd.specs.Hash.{compressions}
-use Rattle.laws.proofs.Bits.{Bits, bits-bitsOf, length-bitsOf}
+use Rattle.laws.proofs.Bits.{bits-bitsOf, length-bitsOf}
 use Rattle.hash.specs.Open.{limit, family, used, legal, advanced, holding, fullBlocks, feedAnswer, digestOf, takeRefusal, takeAnswer, written}
 use Rattle.hash.specs.declared.Hash.{Hash}
 use Rattle.hash.specs.declared.Fed.{Fed}

@@ -1,21 +1,20 @@
 -- What holds of the two hashes of a keyed one, and of a hash that was fed a block.
-use mathlib.Core.Bool.{Bool, true, false, _&&_}
+use mathlib.Core.Bool.{true, false}
 use mathlib.Core.List.{List}
-use mathlib.Core.Path.{_≡_, refl, sym, ap, _∙_}
-use Prim.Native.Nat.{ℕ, _+_, _*_, _<_, _≤_}
+use mathlib.Core.Path.{_≡_, ap, _∙_}
+use Prim.Native.Nat.{ℕ, _*_, _<_, _≤_}
 use native.Mathlib.Omega.{arith}
 use borrow.Author.Tests.{eqb-true, eq-eqb, leb-true, le-leb, lt-leb}
 use lib.Dec.{eqb, leb}
 use lib.ListN.{length}
 use Rattle.simd.specs.Basic.{isWidth, blockBits}
-use Rattle.simd.specs.Message.{bitsOf, message}
 use Rattle.bits.proofs.Zeros.{and-left, and-right}
-use Rattle.hash.specs.Open.{limit, family, legal, holding, openAnswer, feedAnswer, advanced}
+use Rattle.hash.specs.Open.{family, legal, holding, openAnswer, feedAnswer, advanced}
 use Rattle.hash.specs.declared.Hash.{Hash}
 use Rattle.hash.specs.declared.Opened.{Opened}
 use Rattle.hash.specs.declared.Fed.{Fed}
 use Rattle.hash.proofs.Feeding.{fed-whole}
-use Rattle.hash_theorems.proofs.Theorems.{open-known, first, first-legal}
+use Rattle.hash_theorems.proofs.Theorems.{open-known, first-legal}
 use Rattle.hmac_key.proofs.Bytes.{whole-bytes, message-bytes}
 use Rattle.hmac_parts.specs.Keyed.{begun, keyed}
 
@@ -73,7 +72,8 @@ module _ (inner outer : Hash) where
         too-short short =
             rw (one, two, eq-eqb (outer .width) (inner .width) same, lt-leb (blockBits (family inner)) (inner .bits) short)
 
-        pub length-decides : (block : ℕ) → block ≡ blockBits (family inner) → blockBits (family inner) ≤ inner .bits → eqb (outer .bits) block ≡ keyed inner outer
+        pub length-decides : (block : ℕ) → block ≡ blockBits (family inner) → blockBits (family inner) ≤ inner .bits
+            → eqb (outer .bits) block ≡ keyed inner outer
         unfolding keyed
         length-decides block e enough =
             rw (one, two, eq-eqb (outer .width) (inner .width) same, le-leb (blockBits (family inner)) (inner .bits) enough, e)

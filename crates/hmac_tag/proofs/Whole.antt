@@ -3,7 +3,6 @@ use mathlib.Core.Bool.{true, cond}
 use mathlib.Core.List.{List}
 use mathlib.Core.Path.{_≡_, refl, sym, ap, _∙_}
 use Prim.Native.Nat.{ℕ, zero, suc, _*_, _≤_}
-use native.Mathlib.Omega.{arith}
 use borrow.Author.Tests.{leb-true}
 use lib.Dec.{leb}
 use lib.ListN.{length}
@@ -15,7 +14,7 @@ use Rattle.hash.proofs.Feeding.{bits-message}
 use Rattle.hash.proofs.Refusing.{passed, first-refused, first-accepted, written-refused}
 use Rattle.hmac_key.specs.Hmac.{tag}
 use Rattle.hmac_key.specs.Refusal.{keyRefusal}
-use Rattle.hmac.specs.Keyed.{legal, opening, openAnswer, feedRefusal, fed, feedAnswer, tagOf, takeRefusal, taken, takeAnswer}
+use Rattle.hmac.specs.Keyed.{opening, openAnswer, feedRefusal, fed, feedAnswer, tagOf, takeRefusal, taken, takeAnswer}
 use Rattle.hmac.specs.declared.Hmac.{Hmac}
 use Rattle.hmac.specs.declared.Opened.{Opened}
 use Rattle.hmac.specs.declared.Fed.{Fed}

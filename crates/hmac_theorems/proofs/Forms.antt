@@ -1,28 +1,25 @@
 -- The stored form of a keyed hash: the halves of it are the forms of its two hashes, which are of one size.
-use mathlib.Core.Bool.{true, cond}
+use mathlib.Core.Bool.{true}
 use mathlib.Core.List.{List, _++_}
 use mathlib.Core.Path.{_≡_, refl, sym, ap, _∙_}
 use Prim.Native.Nat.{ℕ, zero, suc, _+_, _*_, _/_, _<_}
 use native.Mathlib.Omega.{arith}
 use native.Mathlib.Decide.{decLt}
-use lib.ListN.{length, getD, take, drop, length-append, take-append-drop}
+use lib.ListN.{length, getD, length-append, take-append-drop}
 use lib.Seq.{take-at, drop-at, getD-take, getD-drop}
 use Rattle.simd.specs.Basic.{familyOf}
 use Rattle.laws.proofs.Bits.{getD-take-past}
-use Rattle.hash.specs.Open.{family, legal as hashLegal, first}
+use Rattle.hash.specs.Open.{family, first}
 use Rattle.hash.specs.Form.{formBytes, formOf, restoreAnswer as restored}
-use Rattle.hash.specs.declared.Hash.{Hash}
-use Rattle.hash.specs.declared.Opened.{Opened as HashOpened}
 use Rattle.hash.proofs.Holding.{Value}
 use Rattle.hash.proofs.Refusing.{passed, both-passed}
 use Rattle.hash_theorems.proofs.Held.{long}
 use Rattle.hash_theorems.proofs.Storing.{form-length}
 use Rattle.hash_theorems.proofs.Theorems.{stored-restored as hash-restored, restored-stored as hash-stored}
 use Rattle.hmac_parts.proofs.Keyed.{keyed-facts}
-use Rattle.hmac.specs.Keyed.{legal, noHmac, opened}
+use Rattle.hmac.specs.Keyed.{legal, opened}
 use Rattle.hmac.specs.Form.{keyedForm, front, back, hmacOf, keyedRefusal, restoreAnswer}
 use Rattle.hmac.specs.declared.Hmac.{Hmac}
-use Rattle.hmac.specs.declared.Opened.{Opened}
 
 -- What every value of the struct keeps to.
 pub record Values (k : Hmac) : Type 0 where

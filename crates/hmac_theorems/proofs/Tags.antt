@@ -1,9 +1,9 @@
 -- The tag of the keyed hash is that of FIPS 198-1. What was fed to the inner hash is (K0 xor ipad) || text and to the outer one K0 xor opad, so that
 -- the digests of both, and with them the tag, are those of the definition.
 use mathlib.Core.Bool.{true}
-use mathlib.Core.List.{List, [], _∷_, _++_}
+use mathlib.Core.List.{List, [], _++_}
 use mathlib.Core.Path.{_≡_, refl, sym, ap, _∙_}
-use Prim.Native.Nat.{ℕ, _+_, _*_, _/_, _%_, _≤_}
+use Prim.Native.Nat.{ℕ, _+_, _*_, _%_, _≤_}
 use native.Mathlib.Omega.{arith}
 use borrow.Author.Tests.{le-leb}
 use lib.Bits.{bitXor}
@@ -13,15 +13,17 @@ use Rattle.simd.specs.Message.{bitsOf, message, messageBlocks}
 use Rattle.simd.specs.Hash.{digest, compressions}
 use Rattle.laws.proofs.Table.{length-table}
 use Rattle.laws.proofs.Bits.{Bits, bits-bitsOf, bits-append, length-bitsOf}
-use Rattle.hash.specs.Open.{limit, family, used, pending, legal as hashLegal, holding, advanced, fullBlocks, digestOf, written, pieceRefusal}
+use Rattle.hash.specs.Open.{limit, family, used, pending, holding, advanced, fullBlocks, digestOf, written, pieceRefusal}
 use Rattle.hash.specs.declared.Hash.{Hash}
 use Rattle.hash.specs.declared.Opened.{Opened as HashOpened}
 use Rattle.hash.proofs.Holding.{Sized}
-use Rattle.hash.proofs.Feeding.{Whole, length-message, bits-message}
+use Rattle.hash.proofs.Feeding.{Whole}
 use Rattle.hash.proofs.Digests.{length-digest}
 use Rattle.hash_theorems.proofs.Held.{Long, long}
-use Rattle.hash_theorems.proofs.Advanced.{joined-length, advanced-sized, advanced-legal, advanced-bits, advanced-append, advanced-none, blocks-append, none-full, message-blocks}
-use Rattle.hash_theorems.proofs.Theorems.{Piece, joined, Wholes, bits-joined, first, first-sized, first-legal, open-known as hash-opened}
+use Rattle.hash_theorems.proofs.Advanced.{joined-length, advanced-sized, advanced-legal, advanced-bits, advanced-append, advanced-none}
+use Rattle.hash_theorems.proofs.Advanced.{blocks-append, none-full, message-blocks}
+use Rattle.hash_theorems.proofs.Cutting.{Piece, joined, Wholes, bits-joined, Answer, inTurn, Feeding, all-joined}
+use Rattle.hash_theorems.proofs.Theorems.{first, first-sized, open-known as hash-opened}
 use Rattle.hash_theorems.proofs.Theorems.{after-width as hash-width, after-bits as hash-bits, after-legal, after-digest}
 use Rattle.pairs.specs.Lists.{equal}
 use Rattle.pairs.proofs.ListLaws.{equal-true, same-equal}
@@ -33,16 +35,16 @@ use Rattle.hmac_parts.proofs.Keyed.{IsKeyed, keyed-facts, keyed-of}
 use Rattle.hmac.specs.Keyed.{legal, width, opened, opening, openAnswer, feedRefusal, fed, feedAnswer, tagOf, takeRefusal, taken, takeAnswer, checkAnswer}
 use Rattle.hmac.specs.declared.Hmac.{Hmac}
 use Rattle.hmac.specs.declared.Opened.{Opened}
-use Rattle.hmac.specs.declared.Fed.{Fed}
 use Rattle.hmac.specs.declared.Checked.{Checked}
 
--- Pieces fed one after the other, as to a hash. Blocks and refusals are sums, so that a refusal of 0 says that no piece was refused.
-unfoldable pub feedAll : Hmac → List Piece → Fed
-feedAll k [] = record { hmac = k; blocks = 0; refusal = 0 }
-feedAll k (p ∷ ps) =
-    let once = feedAnswer k (p .bytes) (p .count) in
-    let rest = feedAll (once .hmac) ps in
-    record { hmac = rest .hmac; blocks = once .blocks + rest .blocks; refusal = once .refusal + rest .refusal }
+-- A keyed hash fed a piece, and all pieces of a cutting.
+unfoldable pub feedPiece : Hmac → Piece → Answer Hmac
+feedPiece k p =
+    let a = feedAnswer k (p .bytes) (p .count) in
+    record { left = a .hmac; blocks = a .blocks; refusal = a .refusal }
+
+abbrev pub feedAll : Hmac → List Piece → Answer Hmac
+feedAll k ps = inTurn feedPiece k ps
 
 -- The keyed hash after bits were fed to its inner hash.
 abbrev pub further : Hmac → List ℕ → Hmac
@@ -70,24 +72,48 @@ fed-once k good piece count whole short =
     rw (good, le-leb count (8 * length piece) (whole .within), whole .clean, le-leb (k .inner .bits + count) limit short)
 
 -- Feeding pieces one after the other is feeding their bits joined.
+record Fit (k : Hmac) (n : ℕ) : Type 0 where
+  sized : Sized (k .inner)
+  good : legal k ≡ true
+  short : k .inner .bits + n ≤ limit
+
+feed-once : (k : Hmac) (p : Piece) → Whole (p .bytes) (p .count) → Fit k (p .count)
+    → feedPiece k p
+    ≡ record { left = further k (message (p .bytes) (p .count)); blocks = fullBlocks (k .inner) (length (message (p .bytes) (p .count))); refusal = 0 }
+unfolding feedPiece
+feed-once k p whole fit = rw (fed-once k (fit .good) (p .bytes) (p .count) whole (fit .short))
+
+pub further-none : (k : Hmac) → Sized (k .inner) → legal k ≡ true → (further k [] ≡ k) × (fullBlocks (k .inner) 0 ≡ 0)
+unfolding fullBlocks legal
+further-none k s good =
+    let same = advanced-none (k .inner) s (keyed-facts (k .inner) (k .outer) good .inner-legal) in
+    ((λ i. record { inner = same i; outer = k .outer }), none-full (family (k .inner)) (k .inner .bits))
+
+pub further-joins : (k : Hmac) → Sized (k .inner) → (m n : List ℕ) → Bits m
+    → (further (further k m) n ≡ further k (m ++ n))
+    × (fullBlocks (k .inner) (length m) + fullBlocks (further k m .inner) (length n) ≡ fullBlocks (k .inner) (length (m ++ n)))
+further-joins k s m n bit =
+    let hash = advanced-append (k .inner) (long s) m n bit in
+    ((λ i. record { inner = hash i; outer = k .outer }), sym (blocks-append (k .inner) m n))
+
+keyed-feeding : Feeding (λ (k : Hmac). k) feedPiece further (λ k n. fullBlocks (k .inner) n) Fit
+keyed-feeding =
+    record {
+      once = feed-once;
+      fewer = λ k m n fit. record { sized = fit .sized; good = fit .good; short = omega (arith, fit .short) };
+      ready = λ k m n bit fit.
+          record {
+            sized = advanced-sized (k .inner) (long (fit .sized)) m bit;
+            good = further-legal k (long (fit .sized)) m bit (fit .good);
+            short = omega (arith, fit .short, advanced-bits (k .inner) m);
+          };
+      none = λ k fit. further-none k (fit .sized) (fit .good);
+      joins = λ k m n bit fit. further-joins k (fit .sized) m n bit;
+    }
+
 pub feed-all : (k : Hmac) → Sized (k .inner) → legal k ≡ true → (ps : List Piece) → Wholes ps → k .inner .bits + length (joined ps) ≤ limit
-    → feedAll k ps ≡ record { hmac = further k (joined ps); blocks = fullBlocks (k .inner) (length (joined ps)); refusal = 0 }
-unfolding feedAll joined fullBlocks legal
-feed-all k s good [] whole short =
-    let same = sym (advanced-none (k .inner) s (keyed-facts (k .inner) (k .outer) good .inner-legal)) in
-    let none = sym (none-full (family (k .inner)) (k .inner .bits)) in
-    λ i. record { hmac = record { inner = same i; outer = k .outer }; blocks = none i; refusal = 0 }
-feed-all k s good (p ∷ ps) whole short =
-    let m = message (p .bytes) (p .count) in
-    let size = length-message (p .bytes) (p .count) (whole .0 .within) in
-    let both = length-append m (joined ps) in
-    let bit = bits-message (p .bytes) (p .count) in
-    let once = fed-once k good (p .bytes) (p .count) (whole .0) (omega arith) in
-    let left : further k m .inner .bits + length (joined ps) ≤ limit = omega (arith, advanced-bits (k .inner) m) in
-    let rest = feed-all (further k m) (advanced-sized (k .inner) (long s) m bit) (further-legal k (long s) m bit good) ps (whole .1) left in
-    let hash = advanced-append (k .inner) (long s) m (joined ps) bit in
-    let blocks = sym (blocks-append (k .inner) m (joined ps)) in
-    rw (once, rest) (λ i. record { hmac = record { inner = hash i; outer = k .outer }; blocks = blocks i; refusal = 0 })
+    → feedAll k ps ≡ record { left = further k (joined ps); blocks = fullBlocks (k .inner) (length (joined ps)); refusal = 0 }
+feed-all k s good ps whole short = all-joined keyed-feeding k ps whole (record { sized = s; good = good; short = short })
 
 whole-blocks : (f : Family) → blockBits f % blockBits f ≡ 0
 whole-blocks small = refl
@@ -202,7 +228,8 @@ module _ (w : ℕ) (known : isWidth w ≡ true) (key : List ℕ) (short : 8 * le
 
     -- The blocks that the message makes full and those of the take: the message's compressions, as the inner hash held exactly a block, and the
     -- outer hash's two.
-    pub after-blocks : fullBlocks (opening w key .inner) (length m) + (compressions (family (further (opening w key) m .inner)) (used (further (opening w key) m .inner)) + 2)
+    pub after-blocks : let h = further (opening w key) m .inner in
+        fullBlocks (opening w key .inner) (length m) + (compressions (family h) (used h) + 2)
         ≡ compressions (familyOf w) (length m) + 2
     unfolding advanced holding compressions
     after-blocks =
@@ -216,15 +243,15 @@ module _ (w : ℕ) (known : isWidth w ≡ true) (key : List ℕ) (short : 8 * le
 
 -- Opened with a key, fed the pieces of any cutting of any message that with a key block is within the limit, and taken: nothing is refused, the bytes
 -- are the tag of FIPS 198-1, the blocks are the message's compressions and two, and a check says yes exactly of the whole tag.
-pub record Sealed (w : ℕ) (key m : List ℕ) (a : Fed) (out : List ℕ) : Type 0 where
+pub record Sealed (w : ℕ) (key m : List ℕ) (a : Answer Hmac) (out : List ℕ) : Type 0 where
   pub opened : openAnswer w key .refusal ≡ 0
   pub accepted : a .refusal ≡ 0
-  pub answered : takeAnswer (a .hmac) out .refusal ≡ 0
-  pub bytes : written (takeRefusal (a .hmac) out) (tagOf (a .hmac)) out ≡ tag w key m ++ drop (digestBytes w) out
-  pub blocks : a .blocks + takeAnswer (a .hmac) out .blocks ≡ compressions (familyOf w) (length m) + 2
-  pub checked : (given : List ℕ) → checkAnswer (a .hmac) given .refusal ≡ 0
-  pub right : (given : List ℕ) → given ≡ tag w key m → checkAnswer (a .hmac) given .right ≡ true
-  pub only : (given : List ℕ) → checkAnswer (a .hmac) given .right ≡ true → given ≡ tag w key m
+  pub answered : takeAnswer (a .left) out .refusal ≡ 0
+  pub bytes : written (takeRefusal (a .left) out) (tagOf (a .left)) out ≡ tag w key m ++ drop (digestBytes w) out
+  pub blocks : a .blocks + takeAnswer (a .left) out .blocks ≡ compressions (familyOf w) (length m) + 2
+  pub checked : (given : List ℕ) → checkAnswer (a .left) given .refusal ≡ 0
+  pub right : (given : List ℕ) → given ≡ tag w key m → checkAnswer (a .left) given .right ≡ true
+  pub only : (given : List ℕ) → checkAnswer (a .left) given .right ≡ true → given ≡ tag w key m
 
 module _ (w : ℕ) (known : isWidth w ≡ true) (key : List ℕ) (short : 8 * length key ≤ limit) where
   pub tag-length : (m : List ℕ) → length (tag w key m) ≡ digestBytes w
@@ -248,7 +275,7 @@ module _ (w : ℕ) (known : isWidth w ≡ true) (key : List ℕ) (short : 8 * le
     check-answer given = rw (good, after-tag w known key short m bit)
 
     after-sealed : (out : List ℕ) → digestBytes w ≤ length out
-        → Sealed w key m (record { hmac = k; blocks = fullBlocks (opening w key .inner) (length m); refusal = 0 }) out
+        → Sealed w key m (record { left = k; blocks = fullBlocks (opening w key .inner) (length m); refusal = 0 }) out
     unfolding takeAnswer taken written
     after-sealed out room =
         let none = take-accepted out room in

@@ -1,35 +1,33 @@
 -- What any cutting of a message under a key through simd_hmac_open, simd_hmac_feed, simd_hmac_take and simd_hmac_check gives, of the definitions that
 -- their contracts cite: the tag that simd_hmac writes, and a yes for that tag alone.
-use mathlib.Core.Bool.{Bool, true, false, cond}
-use mathlib.Core.List.{List, [], _∷_, _++_}
+use mathlib.Core.Bool.{Bool, true, false}
+use mathlib.Core.List.{List, _++_}
 use mathlib.Core.Path.{_≡_, refl, sym, ap, _∙_}
 use Prim.Native.Nat.{ℕ, _+_, _*_, _≤_}
 use native.Mathlib.Omega.{arith}
 use borrow.Author.Tests.{le-leb}
-use lib.ListN.{length, drop, length-append}
+use lib.ListN.{length, drop}
 use Rattle.simd.specs.Basic.{Family, small, large, familyOf, isWidth, blockBits, digestBytes}
-use Rattle.simd.specs.Message.{bitsOf, message}
+use Rattle.simd.specs.Message.{message}
 use Rattle.simd.specs.Hash.{compressions}
 use Rattle.laws.proofs.Bits.{Bits, bits-bitsOf}
-use Rattle.hash.specs.Open.{limit, first, family, advanced, holding, fullBlocks, written, openAnswer as hashOpening}
+use Rattle.hash.specs.Open.{limit, first, advanced, holding, fullBlocks, written, openAnswer as hashOpening}
 use Rattle.hash.specs.Form.{formBytes}
-use Rattle.hash.specs.declared.Hash.{Hash}
-use Rattle.hash.proofs.Holding.{Value, Sized}
+use Rattle.hash.proofs.Holding.{Value}
 use Rattle.hash.proofs.Feeding.{Whole, length-message, bits-message}
 use Rattle.hash.proofs.Refusing.{written-accepted}
 use Rattle.hash_theorems.proofs.Held.{long}
 use Rattle.hash_theorems.proofs.Advanced.{advanced-bits}
-use Rattle.hash_theorems.proofs.Theorems.{Piece, joined, Wholes, bits-joined}
+use Rattle.hash_theorems.proofs.Cutting.{Piece, joined, Wholes, bits-joined, Answer, inTurn, Feeding, all-joined}
 use Rattle.hmac_key.specs.Hmac.{ipad, opad, masked, keyBlock, tag}
 use Rattle.hmac_parts.specs.Keyed.{begun}
-use Rattle.hmac.specs.Keyed.{legal, width, opening, openAnswer, feedAnswer, tagOf, takeRefusal, takeAnswer, checkAnswer}
+use Rattle.hmac.specs.Keyed.{legal, width, opening, feedAnswer, tagOf, takeRefusal, takeAnswer, checkAnswer}
 use Rattle.hmac.specs.Form.{keyedForm, storeRefusal, storeAnswer, restoreAnswer}
 use Rattle.hmac.specs.declared.Hmac.{Hmac}
 use Rattle.hmac.specs.declared.Opened.{Opened}
 use Rattle.hmac.specs.declared.Fed.{Fed}
-use Rattle.hmac.specs.declared.Taken.{Taken}
-use Rattle.hmac.specs.declared.Checked.{Checked}
-use Rattle.hmac_theorems.proofs.Tags.{feedAll, further, further-legal, fed-once, feed-all, open-known, pad-bits, start-sized, start-bits, start-family, start-legal, Sealed, tagging}
+use Rattle.hmac_theorems.proofs.Tags.{further, further-legal, further-none, further-joins, fed-once, feed-all}
+use Rattle.hmac_theorems.proofs.Tags.{open-known, pad-bits, start-bits, start-family, start-legal, tagging}
 use Rattle.hmac_theorems.proofs.Forms.{Values, keyed-length, stored-restored}
 use Rattle.simd_c_forms.specs.Calls.{stored}
 use Rattle.simd_c_forms.proofs.Laws.{stored-accepted}
@@ -43,18 +41,14 @@ use Rattle.simd_c_hmac.proofs.Answers.{answered-refusal}
 unfoldable pub openedForm : ℕ → List ℕ → List ℕ → List ℕ
 openedForm w key form = written (openCall w key form) (keyedForm (openedHmac w key)) form
 
-pub record Feeds : Type 0 where
-  pub form : List ℕ
-  pub blocks : ℕ
-  pub refusal : ℕ
-
-unfoldable pub feeds : List ℕ → List Piece → Feeds
-feeds form [] = record { form = form; blocks = 0; refusal = 0 }
-feeds form (p ∷ ps) =
+unfoldable pub feedForm : List ℕ → Piece → Answer (List ℕ)
+feedForm form p =
     let refusal = feedCall form (p .bytes) (p .count) in
     let fed = fedFrom form (p .bytes) (p .count) in
-    let rest = feeds (written refusal (keyedForm (fed .hmac)) form) ps in
-    record { form = rest .form; blocks = stored refusal (fed .blocks) 0 + rest .blocks; refusal = refusal + rest .refusal }
+    record { left = written refusal (keyedForm (fed .hmac)) form; blocks = stored refusal (fed .blocks) 0; refusal = refusal }
+
+abbrev pub feeds : List ℕ → List Piece → Answer (List ℕ)
+feeds form ps = inTurn feedForm form ps
 
 -- What simd_hmac_take leaves of a form, in the output and in the number of its blocks, and simd_hmac_check in its verdict.
 unfoldable pub takenBytes : List ℕ → List ℕ → List ℕ
@@ -113,25 +107,39 @@ module _ (k : Hmac) (v : Values k) (good : legal k ≡ true) (bytes : List ℕ) 
   one-blocks = stored-accepted _ _ 0 one-accepted ∙ ap (λ (a : Fed). a .blocks) one-fed
 
 -- All feeds: from the form of a keyed hash to that of the one fed with all pieces.
-feeds-all : (k : Hmac) → Values k → legal k ≡ true → (ps : List Piece) → Wholes ps → k .inner .bits + length (joined ps) ≤ limit
-    → feeds (keyedForm k) ps ≡ record { form = keyedForm (feedAll k ps .hmac); blocks = feedAll k ps .blocks; refusal = 0 }
-unfolding feeds feedAll joined
-feeds-all k v good [] whole short = refl
-feeds-all k v good (p ∷ ps) whole short =
-    let m = message (p .bytes) (p .count) in
-    let size = length-message (p .bytes) (p .count) (whole .0 .within) in
-    let both = length-append m (joined ps) in
-    let within : k .inner .bits + p .count ≤ limit = omega arith in
-    let left : further k m .inner .bits + length (joined ps) ≤ limit = omega (arith, advanced-bits (k .inner) m) in
-    let values = next-values k v good (p .bytes) (p .count) (whole .0) within in
-    let rest = feeds-all (further k m) values (next-legal k v good (p .bytes) (p .count) (whole .0) within) ps (whole .1) left in
-    let accepted = one-accepted k v good (p .bytes) (p .count) (whole .0) within in
-    let run = ap (λ (l : List ℕ). feeds l ps) (one-form k v good (p .bytes) (p .count) (whole .0) within) ∙ rest in
-    let blocks = one-blocks k v good (p .bytes) (p .count) (whole .0) within in
-    let answer = sym (fed-once k good (p .bytes) (p .count) (whole .0) within) in
-    let after = ap (λ (a : Fed). feedAll (a .hmac) ps) answer in
-    (λ i. record { form = run i .form; blocks = blocks i + run i .blocks; refusal = accepted i + run i .refusal })
-    ∙ λ i. record { form = keyedForm (after i .hmac); blocks = answer i .blocks + after i .blocks; refusal = 0 }
+record Fit (k : Hmac) (n : ℕ) : Type 0 where
+  values : Values k
+  good : legal k ≡ true
+  short : k .inner .bits + n ≤ limit
+
+feed-once : (k : Hmac) (p : Piece) → Whole (p .bytes) (p .count) → Fit k (p .count)
+    → feedForm (keyedForm k) p
+    ≡ record {
+      left = keyedForm (further k (message (p .bytes) (p .count)));
+      blocks = fullBlocks (k .inner) (length (message (p .bytes) (p .count)));
+      refusal = 0;
+    }
+unfolding feedForm
+feed-once k p whole fit =
+    let form = one-form k (fit .values) (fit .good) (p .bytes) (p .count) whole (fit .short) in
+    let blocks = one-blocks k (fit .values) (fit .good) (p .bytes) (p .count) whole (fit .short) in
+    let refusal = one-accepted k (fit .values) (fit .good) (p .bytes) (p .count) whole (fit .short) in
+    λ i. record { left = form i; blocks = blocks i; refusal = refusal i }
+
+form-feeding : Feeding keyedForm feedForm further (λ k n. fullBlocks (k .inner) n) Fit
+form-feeding =
+    record {
+      once = feed-once;
+      fewer = λ k m n fit. record { values = fit .values; good = fit .good; short = omega (arith, fit .short) };
+      ready = λ k m n bit fit.
+          record {
+            values = further-values k (fit .values) m bit (omega (arith, fit .short));
+            good = further-legal k (long (fit .values .inner .sized)) m bit (fit .good);
+            short = omega (arith, fit .short, advanced-bits (k .inner) m);
+          };
+      none = λ k fit. further-none k (fit .values .inner .sized) (fit .good);
+      joins = λ k m n bit fit. further-joins k (fit .values .inner .sized) m n bit;
+    }
 
 -- A take and a check.
 module _ (k : Hmac) (v : Values k) (good : legal k ≡ true) where
@@ -180,13 +188,13 @@ says-yes false e = absurd (omega arith)
 pub record Through (w : ℕ) (key form : List ℕ) (ps : List Piece) (out : List ℕ) : Type 0 where
   pub opened : openCall w key form ≡ 0
   pub fed : feeds (openedForm w key form) ps .refusal ≡ 0
-  pub taken : takeCall (feeds (openedForm w key form) ps .form) out ≡ 0
-  pub bytes : takenBytes (feeds (openedForm w key form) ps .form) out ≡ tag w key (joined ps) ++ drop (digestBytes w) out
-  pub blocks : feeds (openedForm w key form) ps .blocks + takenBlocks (feeds (openedForm w key form) ps .form) out
+  pub taken : takeCall (feeds (openedForm w key form) ps .left) out ≡ 0
+  pub bytes : takenBytes (feeds (openedForm w key form) ps .left) out ≡ tag w key (joined ps) ++ drop (digestBytes w) out
+  pub blocks : feeds (openedForm w key form) ps .blocks + takenBlocks (feeds (openedForm w key form) ps .left) out
       ≡ compressions (familyOf w) (length (joined ps)) + 2
-  pub checked : (given : List ℕ) → checkCall (feeds (openedForm w key form) ps .form) given ≡ 0
-  pub right : (given : List ℕ) (old : ℕ) → given ≡ tag w key (joined ps) → verdict (feeds (openedForm w key form) ps .form) given old ≡ 1
-  pub only : (given : List ℕ) (old : ℕ) → verdict (feeds (openedForm w key form) ps .form) given old ≡ 1 → given ≡ tag w key (joined ps)
+  pub checked : (given : List ℕ) → checkCall (feeds (openedForm w key form) ps .left) given ≡ 0
+  pub right : (given : List ℕ) (old : ℕ) → given ≡ tag w key (joined ps) → verdict (feeds (openedForm w key form) ps .left) given old ≡ 1
+  pub only : (given : List ℕ) (old : ℕ) → verdict (feeds (openedForm w key form) ps .left) given old ≡ 1 → given ≡ tag w key (joined ps)
 
 module _ (w : ℕ) (known : isWidth w ≡ true) (key : List ℕ) (short : 8 * length key ≤ limit) (form : List ℕ)
     (size : length form ≡ 2 * formBytes (familyOf w)) where
@@ -229,28 +237,31 @@ module _ (w : ℕ) (known : isWidth w ≡ true) (key : List ℕ) (short : 8 * le
       → Through w key form ps out
   tagging-through ps whole within out room =
       let total : k .inner .bits + length (joined ps) ≤ limit = omega (arith, within, start-bits w known key short) in
-      let a = feedAll k ps .hmac in
-      let advance = feed-all k (v .inner .sized) good ps whole total in
-      let run = ap (λ (l : List ℕ). feeds l ps) open-form ∙ feeds-all k v good ps whole total in
-      let a-values : Values a = rw advance (further-values k v (joined ps) (bits-joined ps) total) in
-      let a-legal : legal a ≡ true = rw advance (further-legal k (long (v .inner .sized)) (joined ps) (bits-joined ps) good) in
-      let sealed : Sealed w key (joined ps) (feedAll k ps) out =
-      rw (sym (ap (λ (o : Opened). o .hmac) (open-known w known key short))) (tagging w known key short ps whole within out room) in
+      let m = joined ps in
+      let a = further k m in
+      let a-values = further-values k v m (bits-joined ps) total in
+      let a-legal = further-legal k (long (v .inner .sized)) m (bits-joined ps) good in
+      let run =
+      ap (λ (l : List ℕ). feeds l ps) open-form ∙ all-joined form-feeding k ps whole (record { values = v; good = good; short = total }) in
+      let opened-hmac = ap (λ (o : Opened). o .hmac) (open-known w known key short) in
+      let sealed = rw (opened-hmac, feed-all k (v .inner .sized) good ps whole total) at (tagging w known key short ps whole within out room) in
       record {
         opened = open-accepted;
-        fed = ap (λ (r : Feeds). r .refusal) run;
-        taken = ap (λ (r : Feeds). takeCall (r .form) out) run ∙ take-accepted a a-values a-legal out (sealed .answered);
-        bytes = ap (λ (r : Feeds). takenBytes (r .form) out) run ∙ take-bytes a a-values a-legal out (sealed .answered) ∙ sealed .bytes;
+        fed = ap (λ (r : Answer (List ℕ)). r .refusal) run;
+        taken = ap (λ (r : Answer (List ℕ)). takeCall (r .left) out) run ∙ take-accepted a a-values a-legal out (sealed .answered);
+        bytes = ap (λ (r : Answer (List ℕ)). takenBytes (r .left) out) run ∙ take-bytes a a-values a-legal out (sealed .answered) ∙ sealed .bytes;
         blocks =
-            ap (λ (r : Feeds). r .blocks + takenBlocks (r .form) out) run
-            ∙ ap (λ (n : ℕ). feedAll k ps .blocks + n) (take-blocks a a-values a-legal out (sealed .answered))
+            ap (λ (r : Answer (List ℕ)). r .blocks + takenBlocks (r .left) out) run
+            ∙ ap (λ (n : ℕ). fullBlocks (k .inner) (length m) + n) (take-blocks a a-values a-legal out (sealed .answered))
             ∙ sealed .blocks;
-        checked = λ given. ap (λ (r : Feeds). checkCall (r .form) given) run ∙ check-accepted a a-values a-legal given (sealed .checked given);
+        checked = λ given.
+            ap (λ (r : Answer (List ℕ)). checkCall (r .left) given) run ∙ check-accepted a a-values a-legal given (sealed .checked given);
         right = λ given old e.
-            ap (λ (r : Feeds). verdict (r .form) given old) run ∙ check-verdict a a-values a-legal given (sealed .checked given) old
+            ap (λ (r : Answer (List ℕ)). verdict (r .left) given old) run ∙ check-verdict a a-values a-legal given (sealed .checked given) old
             ∙ ap yes (sealed .right given e) ∙ one-is;
         only = λ given old e.
             sealed .only given
             (says-yes (checkAnswer a given .right)
-            (sym (check-verdict a a-values a-legal given (sealed .checked given) old) ∙ sym (ap (λ (r : Feeds). verdict (r .form) given old) run) ∙ e));
+            (sym (check-verdict a a-values a-legal given (sealed .checked given) old)
+            ∙ sym (ap (λ (r : Answer (List ℕ)). verdict (r .left) given old) run) ∙ e));
       }

@@ -1,12 +1,12 @@
 -- What any cutting of a message through simd_open, simd_feed and simd_take gives, of the definitions that their contracts cite: the digest
 -- that simd_hash writes, and the message's compressions.
 use mathlib.Core.Bool.{true}
-use mathlib.Core.List.{List, [], _∷_, _++_, append-nil}
-use mathlib.Core.Path.{_≡_, refl, sym, ap, _∙_}
+use mathlib.Core.List.{List, [], _++_, append-nil}
+use mathlib.Core.Path.{_≡_, sym, ap, _∙_}
 use Prim.Native.Nat.{ℕ, _+_, _/_, _≤_}
 use native.Mathlib.Omega.{arith}
 use borrow.Author.Tests.{le-leb}
-use lib.ListN.{length, drop, length-append}
+use lib.ListN.{length, drop}
 use lib.Seq.{drop-length}
 use Rattle.simd.specs.Basic.{familyOf, isWidth}
 use Rattle.simd.specs.Message.{message}
@@ -23,10 +23,11 @@ use Rattle.hash.specs.declared.Fed.{Fed}
 use Rattle.hash.proofs.Holding.{Value, length-reached}
 use Rattle.hash.proofs.Feeding.{Whole, fed-whole, length-message, bits-message}
 use Rattle.hash_theorems.proofs.Held.{long}
-use Rattle.hash_theorems.proofs.Advanced.{advanced-sized, advanced-bits, advanced-legal}
+use Rattle.hash_theorems.proofs.Advanced.{advanced-sized, advanced-bits, advanced-legal, advanced-append, advanced-none, blocks-append, none-full}
 use Rattle.hash_theorems.proofs.Storing.{reached-fits, form-length}
 use Rattle.hash.proofs.Refusing.{written-accepted}
-use Rattle.hash_theorems.proofs.Theorems.{Piece, joined, feedAll, Wholes, open-known, feed-all, bits-joined, cutting, stored-restored}
+use Rattle.hash_theorems.proofs.Cutting.{Piece, joined, Wholes, bits-joined, Answer, inTurn, Feeding, all-joined}
+use Rattle.hash_theorems.proofs.Theorems.{open-known, feed-all, cutting, stored-restored}
 use Rattle.simd_c_forms.specs.Calls.{stored, openedHash, openCall, fedFrom, feedCall, takeCall}
 use Rattle.simd_c_forms.proofs.Laws.{stored-accepted}
 use Rattle.simd_c_forms.proofs.Answers.{answered-refusal}
@@ -38,18 +39,14 @@ use Rattle.simd_c_theorems.proofs.Opening.{opened-legal, opened-value, 
 unfoldable pub openedForm : ℕ → List ℕ → List ℕ
 openedForm width form = written (openCall width form) (formOf (openedHash width)) form
 
-pub record Feeds : Type 0 where
-  pub form : List ℕ
-  pub blocks : ℕ
-  pub refusal : ℕ
-
-unfoldable pub feeds : List ℕ → List Piece → Feeds
-feeds form [] = record { form = form; blocks = 0; refusal = 0 }
-feeds form (p ∷ ps) =
+unfoldable pub feedForm : List ℕ → Piece → Answer (List ℕ)
+feedForm form p =
     let refusal = feedCall form (p .bytes) (p .count) in
     let fed = fedFrom form (p .bytes) (p .count) in
-    let rest = feeds (written refusal (formOf (fed .hash)) form) ps in
-    record { form = rest .form; blocks = stored refusal (fed .blocks) 0 + rest .blocks; refusal = refusal + rest .refusal }
+    record { left = written refusal (formOf (fed .hash)) form; blocks = stored refusal (fed .blocks) 0; refusal = refusal }
+
+abbrev pub feeds : List ℕ → List Piece → Answer (List ℕ)
+feeds form ps = inTurn feedForm form ps
 
 -- What simd_take leaves of a form, in the output and in the number of its blocks.
 unfoldable pub takenBytes : List ℕ → List ℕ → List ℕ
@@ -124,25 +121,43 @@ module _ (h : Hash) (v : Value h) (good : legal h ≡ true) (bytes : List ℕ) (
   one-blocks = stored-accepted _ _ 0 one-accepted ∙ ap (λ (a : Fed). a .blocks) one-fed
 
 -- All feeds: from the form of a hash to that of the hash fed with all pieces.
-feeds-all : (h : Hash) → Value h → legal h ≡ true → (ps : List Piece) → Wholes ps → h .bits + length (joined ps) ≤ limit
-    → feeds (formOf h) ps ≡ record { form = formOf (feedAll h ps .hash); blocks = feedAll h ps .blocks; refusal = 0 }
-unfolding feeds feedAll joined
-feeds-all h v good [] whole short = refl
-feeds-all h v good (p ∷ ps) whole short =
-    let m = message (p .bytes) (p .count) in
-    let size = length-message (p .bytes) (p .count) (whole .0 .within) in
-    let both = length-append m (joined ps) in
-    let within : h .bits + p .count ≤ limit = omega arith in
-    let left : advanced h m .bits + length (joined ps) ≤ limit = omega (arith, advanced-bits h m) in
-    let value = next-value h v good (p .bytes) (p .count) (whole .0) within in
-    let rest = feeds-all (advanced h m) value (next-legal h v good (p .bytes) (p .count) (whole .0) within) ps (whole .1) left in
-    let accepted = one-accepted h v good (p .bytes) (p .count) (whole .0) within in
-    let run = ap (λ (l : List ℕ). feeds l ps) (one-form h v good (p .bytes) (p .count) (whole .0) within) ∙ rest in
-    let blocks = one-blocks h v good (p .bytes) (p .count) (whole .0) within in
-    let answer = sym (fed-whole h (p .bytes) (p .count) good (whole .0) within) in
-    let after = ap (λ (a : Fed). feedAll (a .hash) ps) answer in
-    (λ i. record { form = run i .form; blocks = blocks i + run i .blocks; refusal = accepted i + run i .refusal })
-    ∙ λ i. record { form = formOf (after i .hash); blocks = answer i .blocks + after i .blocks; refusal = 0 }
+record Fit (h : Hash) (n : ℕ) : Type 0 where
+  value : Value h
+  good : legal h ≡ true
+  short : h .bits + n ≤ limit
+
+feed-once : (h : Hash) (p : Piece) → Whole (p .bytes) (p .count) → Fit h (p .count)
+    → feedForm (formOf h) p
+    ≡ record {
+      left = formOf (advanced h (message (p .bytes) (p .count)));
+      blocks = fullBlocks h (length (message (p .bytes) (p .count)));
+      refusal = 0;
+    }
+unfolding feedForm
+feed-once h p whole fit =
+    let form = one-form h (fit .value) (fit .good) (p .bytes) (p .count) whole (fit .short) in
+    let blocks = one-blocks h (fit .value) (fit .good) (p .bytes) (p .count) whole (fit .short) in
+    let refusal = one-accepted h (fit .value) (fit .good) (p .bytes) (p .count) whole (fit .short) in
+    λ i. record { left = form i; blocks = blocks i; refusal = refusal i }
+
+no-bits : (h : Hash) → Fit h 0 → (advanced h [] ≡ h) × (fullBlocks h 0 ≡ 0)
+unfolding fullBlocks
+no-bits h fit = (advanced-none h (fit .value .sized) (fit .good), none-full (family h) (h .bits))
+
+form-feeding : Feeding formOf feedForm advanced fullBlocks Fit
+form-feeding =
+    record {
+      once = feed-once;
+      fewer = λ h m n fit. record { value = fit .value; good = fit .good; short = omega (arith, fit .short) };
+      ready = λ h m n bit fit.
+          record {
+            value = advanced-value h (fit .value) m bit (omega (arith, fit .short));
+            good = advanced-legal h (long (fit .value .sized)) m bit (fit .good);
+            short = omega (arith, fit .short, advanced-bits h m);
+          };
+      none = no-bits;
+      joins = λ h m n bit fit. (advanced-append h (long (fit .value .sized)) m n bit, sym (blocks-append h m n));
+    }
 
 -- A take.
 module _ (h : Hash) (v : Value h) (good : legal h ≡ true) (out : List ℕ) (answered : takeAnswer h out .refusal ≡ 0) where
@@ -166,9 +181,9 @@ module _ (h : Hash) (v : Value h) (good : legal h ≡ true) (out : List ℕ) (an
 pub record Through (width : ℕ) (form : List ℕ) (ps : List Piece) (out : List ℕ) : Type 0 where
   pub opened : openCall width form ≡ 0
   pub fed : feeds (openedForm width form) ps .refusal ≡ 0
-  pub taken : takeCall (feeds (openedForm width form) ps .form) out ≡ 0
-  pub bytes : takenBytes (feeds (openedForm width form) ps .form) out ≡ digest width (joined ps) ++ drop (width / 8) out
-  pub blocks : feeds (openedForm width form) ps .blocks + takenBlocks (feeds (openedForm width form) ps .form) out
+  pub taken : takeCall (feeds (openedForm width form) ps .left) out ≡ 0
+  pub bytes : takenBytes (feeds (openedForm width form) ps .left) out ≡ digest width (joined ps) ++ drop (width / 8) out
+  pub blocks : feeds (openedForm width form) ps .blocks + takenBlocks (feeds (openedForm width form) ps .left) out
       ≡ compressions (familyOf width) (length (joined ps))
 
 module _ (width : ℕ) (known : isWidth width ≡ true) (form : List ℕ) (size : length form ≡ formBytes (familyOf width)) where
@@ -198,19 +213,20 @@ module _ (width : ℕ) (known : isWidth width ≡ true) (form : List ℕ) (size 
   pub cutting-through : (ps : List Piece) → Wholes ps → length (joined ps) ≤ limit → (out : List ℕ) → width / 8 ≤ length out → Through width form ps out
   cutting-through ps whole short out room =
       let within : h .bits + length (joined ps) ≤ limit = omega (arith, short, opened-bits width known) in
-      let a = feedAll h ps .hash in
-      let advance = feed-all h (v .sized) good ps whole within in
-      let run = ap (λ (l : List ℕ). feeds l ps) open-form ∙ feeds-all h v good ps whole within in
-      let a-value : Value a = rw advance (advanced-value h v (joined ps) (bits-joined ps) within) in
-      let a-legal : legal a ≡ true = rw advance (advanced-legal h (long (v .sized)) (joined ps) (bits-joined ps) good) in
-      let hashed = cutting width known ps whole short out room in
+      let m = joined ps in
+      let a = advanced h m in
+      let a-value = advanced-value h v m (bits-joined ps) within in
+      let a-legal = advanced-legal h (long (v .sized)) m (bits-joined ps) good in
+      let run =
+      ap (λ (l : List ℕ). feeds l ps) open-form ∙ all-joined form-feeding h ps whole (record { value = v; good = good; short = within }) in
+      let hashed = rw (feed-all h (v .sized) good ps whole within) at (cutting width known ps whole short out room) in
       record {
         opened = open-accepted;
-        fed = ap (λ (r : Feeds). r .refusal) run;
-        taken = ap (λ (r : Feeds). takeCall (r .form) out) run ∙ take-accepted a a-value a-legal out (hashed .answered);
-        bytes = ap (λ (r : Feeds). takenBytes (r .form) out) run ∙ take-bytes a a-value a-legal out (hashed .answered) ∙ hashed .bytes;
+        fed = ap (λ (r : Answer (List ℕ)). r .refusal) run;
+        taken = ap (λ (r : Answer (List ℕ)). takeCall (r .left) out) run ∙ take-accepted a a-value a-legal out (hashed .answered);
+        bytes = ap (λ (r : Answer (List ℕ)). takenBytes (r .left) out) run ∙ take-bytes a a-value a-legal out (hashed .answered) ∙ hashed .bytes;
         blocks =
-            ap (λ (r : Feeds). r .blocks + takenBlocks (r .form) out) run
-            ∙ ap (λ (n : ℕ). feedAll h ps .blocks + n) (take-blocks a a-value a-legal out (hashed .answered))
+            ap (λ (r : Answer (List ℕ)). r .blocks + takenBlocks (r .left) out) run
+            ∙ ap (λ (n : ℕ). fullBlocks h (length m) + n) (take-blocks a a-value a-legal out (hashed .answered))
             ∙ hashed .blocks;
       }

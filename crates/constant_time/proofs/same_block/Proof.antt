@@ -1,6 +1,5 @@
 -- The loop's invariant: the or of the xors passed is 0 exactly where the bytes passed are equal.
-use Prim.Native.Nat.{_≤_, _-_}
-use mathlib.Core.Path.{_≡_}
+use Prim.Native.Nat.{_-_}
 use borrow.Author.Needs.{needs}
 use lib.ListN.{length}
 use Rattle.constant_time.proofs.Seen.{Seen, seen-none, seen-more, seen-all}

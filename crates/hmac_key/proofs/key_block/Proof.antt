@@ -1,5 +1,4 @@
 -- A key of at most a block is copied over zeros; of a longer one the digest is written over zeros.
-use mathlib.Core.Path.{_∙_}
 use native.Mathlib.Omega.{arith}
 use borrow.Author.Needs.{needs}
 use Rattle.hmac_key.proofs.KeyBlock.{short-key, hashed-key}

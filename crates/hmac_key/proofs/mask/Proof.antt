@@ -1,10 +1,10 @@
 -- The invariant: the first i bytes are those of the block xor the pad.
-use mathlib.Core.Path.{_≡_, refl, sym, ap, _∙_}
+use mathlib.Core.Path.{refl, sym, ap, _∙_}
 use Prim.Native.Nat.{ℕ, _≤_, _-_}
 use native.Mathlib.Omega.{arith}
 use borrow.Author.Needs.{needs}
 use lib.Bits.{bitXor}
-use lib.ListN.{getD, length, length-replicate}
+use lib.ListN.{getD, length-replicate}
 use Rattle.simd.specs.Basic.{table}
 use Rattle.bits.proofs.Filling.{Filled, filled-none, filled-more, filled-all}
 use Rattle.hmac_key.specs.Hmac.{masked}

@@ -1,5 +1,5 @@
 -- The tests in turn: both hashes legal, one width, the inner one long enough, the outer one exactly a block.
-use mathlib.Core.Bool.{true, false}
+use mathlib.Core.Bool.{true}
 use mathlib.Core.Path.{_≡_, sym, _∙_}
 use Prim.Native.Nat.{_*_}
 use native.Mathlib.Omega.{arith}

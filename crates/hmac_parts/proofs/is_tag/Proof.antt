@@ -1,11 +1,8 @@
 -- The tag is written over the first of 64 bytes, and these are compared.
-use mathlib.Core.Bool.{true}
-use mathlib.Core.Path.{_≡_, ap, _∙_}
+use mathlib.Core.Path.{ap, _∙_}
 use Prim.Native.Nat.{_≤_}
 use native.Mathlib.Omega.{arith}
 use borrow.Author.Needs.{needs}
-use mathlib.Core.List.{List}
-use Prim.Native.Nat.{ℕ}
 use Rattle.simd.specs.Basic.{digestBytes}
 use Rattle.hash.proofs.Holding.{legal-width}
 use Rattle.hash_theorems.proofs.Held.{Long}

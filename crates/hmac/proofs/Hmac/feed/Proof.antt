@@ -1,6 +1,5 @@
 -- Refused, the keyed hash comes back; else its inner hash is fed.
-use mathlib.Core.Bool.{true}
-use mathlib.Core.Path.{_≡_, sym, _∙_}
+use mathlib.Core.Path.{sym, _∙_}
 use borrow.Author.Needs.{needs}
 use borrow.Author.Tests.{not-true, not-false}
 use Rattle.hmac.proofs.Answers.{feed-illegal, feed-answered}

@@ -79,5 +79,6 @@ pub open-spec : {M : Type 1} → statement M
 open-spec =
     tie.close
     (tie.spec (λ c κs. search needs) (λ c κs. search needs) returns (λ c κs. search needs) key-block-requires (λ c κs. search needs)
-    (λ c κs. search needs) (λ c. search needs) (λ c. search needs) (λ c. omega (arith, small (measured (c .before)), long (c .before))) begin-requires (λ c. search needs)
+    (λ c κs. search needs) (λ c. search needs) (λ c. search needs) (λ c. omega (arith, small (measured (c .before)), long (c .before))) begin-requires
+    (λ c. search needs)
     (λ c. search needs) (λ c. omega (arith, small (measured (masked-before (c .before))), long (masked-before (c .before)))) begin-requires-2 returns-2)
