@@ -97,11 +97,11 @@ unfolding taken
 taken-refused zero k some = absurd (some refl)
 taken-refused (suc r) k some = refl
 
-module _ (k : Hmac) (out : List ℕ) (r n : ℕ) (size : n ≡ digestBytes (width k))
-    (same : r ≡ cond (keyed (k .inner) (k .outer)) (cond (leb n (length out)) 0 6) 5) where
+module _ (k : Hmac) (out : List ℕ) (r : ℕ)
+    (same : r ≡ cond (keyed (k .inner) (k .outer)) (cond (leb (digestBytes (width k)) (length out)) 0 6) 5) where
   take-refusal : r ≡ takeRefusal k out
   unfolding takeRefusal legal
-  take-refusal = same ∙ ap (λ (n : ℕ). cond (keyed (k .inner) (k .outer)) (cond (leb n (length out)) 0 6) 5) size
+  take-refusal = same
 
   pub take-refused : (r ≡ 0 → ⊥) → (record { hmac = k; blocks = 0; refusal = r } ≡ takeAnswer k out) × (out ≡ written (takeRefusal k out) (tagOf k) out)
   unfolding takeAnswer
@@ -113,15 +113,15 @@ module _ (k : Hmac) (out : List ℕ) (r n : ℕ) (size : n ≡ digestBytes (widt
   pub take-facts : r ≡ 0 → (keyed (k .inner) (k .outer) ≡ true) × (digestBytes (width k) ≤ length out)
   take-facts none =
       let one = passed (keyed (k .inner) (k .outer)) _ 4 (sym same ∙ none) in
-      (one .0, omega (arith, leb-true n (length out) (passed (leb n (length out)) 0 5 (one .1) .0), size))
+      (one .0, leb-true (digestBytes (width k)) (length out) (passed (leb (digestBytes (width k)) (length out)) 0 5 (one .1) .0))
 
   pub take-answered : r ≡ 0 → {blocks : ℕ} {left : List ℕ} → left ≡ written 0 (tagFrom (k .inner) (k .outer)) out
       → blocks ≡ compressions (family (k .inner)) (used (k .inner)) + 2
-      → (record { hmac = k; blocks = blocks; refusal = 0 } ≡ takeAnswer k out) × (left ≡ written (takeRefusal k out) (tagOf k) out)
+      → (record { hmac = k; blocks = blocks; refusal = r } ≡ takeAnswer k out) × (left ≡ written (takeRefusal k out) (tagOf k) out)
   unfolding takeAnswer taken
   take-answered none wrote count =
       let accepted = sym take-refusal ∙ none in
-      rw accepted ((λ i. record { hmac = k; blocks = count i; refusal = 0 }), wrote)
+      rw accepted ((λ i. record { hmac = k; blocks = count i; refusal = none i }), wrote)
 
 -- Checked.
 module _ (k : Hmac) (given : List ℕ) where

@@ -102,20 +102,16 @@ impl Hmac {
     {
         let inner = self.inner;
         let outer = self.outer;
-        let length = tail::digest_bytes(inner.width);
-        let refusal = hmac_parts::output_refusal(inner, outer, length, out.len());
-        if refusal != 0 {
-            return Taken {
-                hmac: self,
-                blocks: 0,
-                refusal,
-            };
+        let refusal = hmac_parts::tag_refusal(inner, outer, out.len());
+        // With one way out the hashes are copied once, and by no memmove, which the library does not ask of its caller.
+        let mut blocks = 0;
+        if refusal == 0 {
+            blocks = hmac_parts::finish(inner, outer, out);
         }
-        let blocks = hmac_parts::finish(inner, outer, out);
         Taken {
             hmac: self,
             blocks,
-            refusal: 0,
+            refusal,
         }
     }
 

@@ -62,6 +62,13 @@ pub fn output_refusal(inner: Hash, outer: Hash, needed: usize, room: usize) -> u
     }
 }
 
+// The same for the tag.
+pub fn tag_refusal(inner: Hash, outer: Hash, room: usize) -> u8
+    ensures { λ r. ⌜ r ≡ cond (keyed inner outer) (cond (leb (digestBytes (inner .width)) room) 0 6) 5 ⌝ }
+{
+    output_refusal(inner, outer, tail::digest_bytes(inner.width), room)
+}
+
 // Writes the tag: the outer hash's digest after it was fed the inner one's. Gives the number of compressions.
 pub fn finish(inner: Hash, outer: Hash, out: &mut [u8]) -> usize
     requires { ⌜ (keyed inner outer ≡ true) × (digestBytes (inner .width) ≤ length (now out)) ⌝ }

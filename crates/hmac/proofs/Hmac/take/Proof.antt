@@ -11,35 +11,30 @@ use Rattle.hmac.proofs.Answers.{take-refused, take-facts, take-answered
 use Rattle.hmac.proofs.Hmac.take.Statement.{statement}
 use Rattle.hmac.proofs.Hmac.take.Tie as tie
 
-abbrev start : tie.After-output-refusal → tie.Start
-start c = c .before .before .before .before .before
+abbrev start : tie.After-tag-refusal → tie.Start
+start c = c .before .before .before .before
 
-facts : (c : tie.Else1) → let a = start (c .before) .args in
+facts : (c : tie.Then1) → let a = start (c .before) .args in
     (keyed (a .self .inner) (a .self .outer) ≡ true) × (digestBytes (width (a .self)) ≤ length (a .out .now))
 facts c =
     let o = c .before in
     let a = start o .args in
-    let d = o .before .digest-bytes in
-    take-facts (a .self) (a .out .now) (o .output-refusal .result) (d .result) (d .ensures) (o .output-refusal .ensures) (c .if1 .left)
+    take-facts (a .self) (a .out .now) (o .tag-refusal .result) (o .tag-refusal .ensures) (c .if1 .taken)
 
 returns : tie.Need-returns
 returns c =
-    let o = c .before in
-    let a = start o .args in
-    let d = o .before .digest-bytes in
-    take-refused (a .self) (a .out .now) (o .output-refusal .result) (d .result) (d .ensures) (o .output-refusal .ensures) (c .if1 .taken)
-
-returns-2 : tie.Need-returns-2
-returns-2 c =
     let f = c .before .before in
     let e = f .before .before in
     let o = e .before in
     let a = start o .args in
-    let d = o .before .digest-bytes in
-    take-answered (a .self) (a .out .now) (o .output-refusal .result) (d .result) (d .ensures) (o .output-refusal .ensures) (e .if1 .left)
+    take-answered (a .self) (a .out .now) (o .tag-refusal .result) (o .tag-refusal .ensures) (e .if1 .taken)
     (f .finish .ensures .0) (f .finish .ensures .1)
 
+returns-2 : tie.Need-returns-2
+returns-2 c =
+    let o = c .before in
+    let a = start o .args in
+    take-refused (a .self) (a .out .now) (o .tag-refusal .result) (o .tag-refusal .ensures) (c .if1 .left)
+
 pub take-spec : {M : Type 1} → statement M
-take-spec =
-    tie.close
-    (tie.spec (λ c κs. search needs) (λ c κs. search needs) returns (λ c κs. facts (c .before)) (λ c. search needs) returns-2)
+take-spec = tie.close (tie.spec (λ c κs. search needs) (λ c κs. facts (c .before)) (λ c. search needs) returns returns-2)
