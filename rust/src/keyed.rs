@@ -1,6 +1,7 @@
 use std::fmt;
-use std::hint;
 use std::io;
+use std::ptr;
+use std::sync::atomic;
 
 use crate::{bits_of, block_len, ffi, form_len, Digest, Refusal, DIGEST_MAX, FORM_MAX};
 
@@ -190,9 +191,11 @@ impl Hmac {
 
 impl Drop for Hmac {
     fn drop(&mut self) {
-        self.form = [0; HMAC_FORM_MAX];
-        // Else the compiler may leave out what nothing reads.
-        hint::black_box(&mut self.form);
+        for byte in &mut self.form {
+            // A plain store may be left out, since nothing reads it.
+            unsafe { ptr::write_volatile(byte, 0) };
+        }
+        atomic::compiler_fence(atomic::Ordering::SeqCst);
     }
 }
 
@@ -252,7 +255,8 @@ pub fn hmac(width: u16, key: &[u8], message: &[u8], bits: u64) -> Result<Digest,
     Ok(Digest::new(bytes, width))
 }
 
-/// The tag of a message of whole bytes under a key.
+/// The tag of a message of whole bytes under a key. Given bytes are compared with a tag by
+/// [`Hmac::check`]: `==` may end early.
 ///
 /// Refused: [`Refusal::Width`], [`Refusal::Total`].
 pub fn hmac_bytes(width: u16, key: &[u8], message: &[u8]) -> Result<Digest, Refusal> {

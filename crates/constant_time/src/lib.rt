@@ -1,4 +1,4 @@
-// Equality of bytes in a time that their values do not change: all are read, with no early end. The loop also becomes vector code.
+// Equality of bytes with no early end: all are read, wherever the first differs. The loop also becomes vector code.
 ghost use mathlib.Core.Path.{_≡_};
 ghost use lib.ListN.{length};
 ghost use Rattle.pairs.specs.Lists.{equal};

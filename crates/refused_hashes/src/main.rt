@@ -1,5 +1,6 @@
 // Open hashes that are none, and those next to them that are: what feeding, taking and storing each of them answers.
 use hash::Hash;
+use hmac::Hmac;
 use libc::STDOUT_FILENO;
 
 fn number(n: u8) {
@@ -15,6 +16,19 @@ fn answers(name: &[u8], hash: Hash) {
     number(hash.feed(&piece, 0).refusal);
     number(hash.take(&mut digest).refusal);
     number(hash.store(&mut form).refusal);
+    io::write_all(STDOUT_FILENO, b"\n");
+}
+
+fn keyed(name: &[u8], inner: Hash, outer: Hash) {
+    let piece = [0u8; 1];
+    let mut tag = [0u8; 64];
+    let mut form = [0u8; 524];
+    let hmac = Hmac { inner, outer };
+    io::write_all(STDOUT_FILENO, name);
+    number(hmac.feed(&piece, 0).refusal);
+    number(hmac.take(&mut tag).refusal);
+    number(hmac.check(&tag).refusal);
+    number(hmac.store(&mut form).refusal);
     io::write_all(STDOUT_FILENO, b"\n");
 }
 
@@ -63,5 +77,22 @@ fn main() {
     answers(
         b"512, byte 127, 1024 bits",
         with_byte(of(512, 1024), 127, 2),
+    );
+    keyed(b"keyed 256", of(256, 512), of(256, 512));
+    keyed(b"keyed 512", of(512, 4096), of(512, 1024));
+    keyed(b"keyed 256, inner 511", of(256, 511), of(256, 512));
+    keyed(b"keyed 512, inner 1023", of(512, 1023), of(512, 1024));
+    keyed(b"keyed 256, outer 511", of(256, 512), of(256, 511));
+    keyed(b"keyed 256, outer 513", of(256, 512), of(256, 513));
+    keyed(b"keyed 256, outer 224", of(256, 512), of(224, 512));
+    keyed(
+        b"keyed 256, inner word 16",
+        with_word(of(256, 512), 16),
+        of(256, 512),
+    );
+    keyed(
+        b"keyed 256, outer word 16",
+        of(256, 512),
+        with_word(of(256, 512), 16),
     );
 }
