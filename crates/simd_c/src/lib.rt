@@ -17,6 +17,7 @@ ghost use Rattle.expansion.specs.Call.{expandRefusal, expandOutput};
 ghost use Rattle.stepping.specs.Call.{stepsRefusal, stepsOutput, forward, backward};
 ghost use Rattle.tape.specs.Run.{ranOf, output};
 ghost use Rattle.text.specs.Text.{over};
+ghost use Rattle.ledger.specs.Page.{entryLines, printRefusal};
 ghost use Rattle.simd_c_forms.specs.Calls.{stored, openedHash, openCall, fedFrom, feedCall, takeCall};
 ghost use Rattle.simd_c_hmac.specs.Calls.{openedHmac, openCall as openKeyed, fedFrom as fedKeyed, feedCall as feedKeyed, takeCall as takeKeyed};
 ghost use Rattle.simd_c_hmac.specs.Calls.{checkCall, yes};
@@ -173,4 +174,13 @@ pub extern "C" fn simd_tape(tape: &[u8], out: &mut [u8], count: &mut u64, place:
         (ranOf (runWithin (now (tape .entry)) (now (out .entry))) .place) (now (place .entry)) ⌝ }
 {
     simd_c_answers::run_tape(tape, out, count, place)
+}
+
+#[no_mangle]
+pub extern "C" fn simd_page_entry(number: u64, width: u16, digest: &[u8], out: &mut [u8]) -> u8
+    ensures { λ r. ⌜ r ≡ printRefusal number width (now (digest .entry)) (length (now (out .entry))) ⌝ }
+    ensures { λ r. ⌜ now (out .exit) ≡ written (printRefusal number width (now (digest .entry)) (length (now (out .entry))))
+        (entryLines number width (now (digest .entry))) (now (out .entry)) ⌝ }
+{
+    page::entry(number, width, digest, out)
 }
