@@ -1,5 +1,5 @@
 pub mod Columns
 pub mod Reading
-pub mod Inked
+pub mod LineEnds
 pub mod Distinct
 pub mod Theorems

@@ -21,7 +21,7 @@ left k text = text ++ spaces (k - length text)
 
 -- A line: its first 11 columns, 64 columns for hexadecimal digits, and its end.
 unfoldable pub line : List ℕ → List ℕ → List ℕ
-line front digits = front ++ left 64 digits ++ (10 ∷ [])
+line margin digits = margin ++ left 64 digits ++ (10 ∷ [])
 
 -- The number in 6 columns, and the width in 3.
 unfoldable pub numberColumns : ℕ → List ℕ
@@ -44,7 +44,7 @@ entryLines number width digest =
 unfoldable pub entryBytes : ℕ → ℕ
 entryBytes width = cond (leb (2 * digestBytes width) 64) 76 152
 
--- A page: the lines of its entries in turn.
+-- An entry, and a page: the lines of its entries in turn.
 pub record Entry : Type 0 where
   pub number : ℕ
   pub width : ℕ

@@ -14,7 +14,7 @@ fn front(text: &mut [u8], number: u64, width: u16) -> usize
     page_columns::number(text, next, 3, width as u64)
 }
 
-// A line holds the digits of 32 bytes.
+// All lines of an entry: one line holds the digits of 32 bytes.
 pub fn print(text: &mut [u8], number: u64, width: u16, digest: &[u8])
     requires { ⌜ printRefusal number width (now digest) (length (now text)) ≡ 0 ⌝ }
     ensures { λ _. ⌜ now (text .exit) ≡ over (now (text .entry)) 0 (entryLines number width (now (digest .entry))) ⌝ }

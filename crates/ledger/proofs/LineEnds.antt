@@ -11,6 +11,13 @@ use Rattle.text.specs.Text.{digits, decimal, glyph, hex}
 use Rattle.ledger.specs.Page.{spaces, right, left, line, numberColumns, widthColumns, front, entryLines}
 use Rattle.ledger.proofs.Columns.{Facts, length-left, length-front}
 
+-- A byte behind the first of two texts is one of the second.
+getD-behind : (a b : List ℕ) (i : ℕ) → length a ≤ i → getD (a ++ b) i 0 ≡ getD b (i - length a) 0
+getD-behind a b i behind =
+    let place : i ≡ length a + (i - length a) = omega arith in
+    ap (λ (k : ℕ). getD (a ++ b) k 0) place ∙ getD-append-add a b (i - length a) 0
+
+-- A text with no byte below a space.
 abbrev Inked : List ℕ → Type 0
 Inked text = (i : ℕ) → i < length text → 32 ≤ getD text i 0
 
@@ -18,11 +25,7 @@ inked-append : (a b : List ℕ) → Inked a → Inked b → Inked (a ++ b)
 inked-append a b f g i below =
     elim (decLt i (length a)) [
       | yes before ↦ rw (List·getD-append a b 0 i before) (f i before)
-      | no behind ↦
-          let place : i ≡ length a + (i - length a) = omega arith in
-          let same : getD (a ++ b) i 0 ≡ getD b (i - length a) 0 =
-          ap (λ (k : ℕ). getD (a ++ b) k 0) place ∙ getD-append-add a b (i - length a) 0 in
-          rw same (g (i - length a) (omega (arith, length-append a b)))
+      | no behind ↦ rw (getD-behind a b i (omega arith)) (g (i - length a) (omega (arith, length-append a b)))
     ]
 
 inked-spaces : (k : ℕ) → Inked (spaces k)
@@ -96,21 +99,16 @@ lines-append {a} {b} f g =
             | yes before ↦ List·getD-append a b 0 i before ∙ f .ends i before here
             | no behind ↦
                 let k = i - length a in
-                moved i (omega arith) ∙ g .ends k (omega (arith, length-append a b)) (omega (arith, f .whole))
+                getD-behind a b i (omega arith) ∙ g .ends k (omega (arith, length-append a b)) (omega (arith, f .whole))
           ];
       only =
           λ i below here. elim (decLt i (length a)) [
             | yes before ↦ f .only i before (sym (List·getD-append a b 0 i before) ∙ here)
             | no behind ↦
                 let k = i - length a in
-                omega (arith, f .whole, g .only k (omega (arith, length-append a b)) (sym (moved i (omega arith)) ∙ here))
+                omega (arith, f .whole, g .only k (omega (arith, length-append a b)) (sym (getD-behind a b i (omega arith)) ∙ here))
           ];
     }
-  where
-    moved : (i : ℕ) → length a ≤ i → getD (a ++ b) i 0 ≡ getD b (i - length a) 0
-    moved i behind =
-        let place : i ≡ length a + (i - length a) = omega arith in
-        ap (λ (k : ℕ). getD (a ++ b) k 0) place ∙ getD-append-add a b (i - length a) 0
 
 -- One line is such a text.
 line-lines : (first text : List ℕ) → length first ≡ 11 → length text ≤ 64 → Inked first → Inked text → Lines (line first text)
