@@ -1,5 +1,5 @@
 /* simd.h - SIMD v1.1: digests and keyed seals of bit strings, comparison,
-   sealing tape
+   sealing tape, ledger page
 
    C99 and C++11, on x86-64.  Link with -lsimd, or with libsimd.a by its path.
 
@@ -157,6 +157,38 @@
            return 0;
        }
 
+     page.c: a page of two entries for the ledger binder, printed.  Each entry goes
+     straight after the one before it; the page is bytes, and no 0 ends them.
+
+       #include <stdio.h>
+       #include "simd.h"
+
+       static const struct {
+           uint64_t number;
+           uint16_t width;
+       } ENTRIES[2] = {{9, 256}, {10, 512}};
+
+       int main(void)
+       {
+           const uint8_t message[3] = {'a', 'b', 'c'};
+           uint8_t digest[SIMD_DIGEST_MAX], page[2 * SIMD_ENTRY_MAX];
+           size_t used = 0;
+           for (int k = 0; k < 2; k++) {
+               uint16_t width = ENTRIES[k].width;
+               uint8_t refusal = simd_hash(width, message, sizeof message, 8 * sizeof message,
+                                           digest, sizeof digest);
+               if (refusal == SIMD_ACCEPTED)
+                   refusal = simd_page_entry(ENTRIES[k].number, width, digest, SIMD_DIGEST(width),
+                                             page + used, sizeof page - used);
+               if (refusal != SIMD_ACCEPTED) {
+                   fprintf(stderr, "refused %d: %s\n", refusal, simd_refusal_text(refusal));
+                   return 1;
+               }
+               used += SIMD_ENTRY(width);
+           }
+           return fwrite(page, 1, used, stdout) == used ? 0 : 1;
+       }
+
      vector.cpp: a std::vector, which may be empty.
 
        #include <cstdio>
@@ -220,6 +252,8 @@ extern "C" {
 #define SIMD_WORDS_SMALL 128    /* an expanded block, in words of 32 bits */
 #define SIMD_WORDS_LARGE 256
 #define SIMD_DIGEST_MAX 64      /* the longest digest */
+#define SIMD_LINE 76            /* a line of a page: 75 columns and a newline */
+#define SIMD_ENTRY_MAX 152      /* the longest entry of a page: two lines */
 
 /* The same for one of the four widths. */
 #define SIMD_BLOCK(width) ((width) <= 256 ? SIMD_BLOCK_SMALL : SIMD_BLOCK_LARGE)
@@ -227,10 +261,14 @@ extern "C" {
 #define SIMD_HMAC_FORM(width) ((width) <= 256 ? SIMD_HMAC_FORM_SMALL : SIMD_HMAC_FORM_LARGE)
 #define SIMD_WORDS(width) ((width) <= 256 ? SIMD_WORDS_SMALL : SIMD_WORDS_LARGE)
 #define SIMD_DIGEST(width) ((width) / 8)
+#define SIMD_ENTRY(width) ((width) <= 256 ? SIMD_LINE : 2 * SIMD_LINE)
 
 /* The most bits of a message; of a keyed hash, of its key, and of its message with
    one block for the key. */
 #define SIMD_BITS_MAX UINT64_C(4294967295)
+
+/* The greatest number of an entry of a page. */
+#define SIMD_NUMBER_MAX UINT64_C(999999)
 
 /* The most stack of a call, in bytes, at any width and for all arguments, with
    its arguments and return address.  Rounded up from what was measured and from
@@ -250,6 +288,7 @@ extern "C" {
 #define SIMD_STACK_UNSTEPS 5632
 #define SIMD_STACK_COMPARE 8192
 #define SIMD_STACK_TAPE 10240
+#define SIMD_STACK_PAGE_ENTRY 256
 #define SIMD_STACK_MAX 13312    /* of all calls */
 
 /* REFUSALS */
@@ -263,13 +302,15 @@ extern "C" {
 #define SIMD_REFUSED_HASH 5      /* an open hash that is none; here, two stored forms that no
                                     keyed hash holds */
 #define SIMD_REFUSED_OUTPUT 6    /* the output is too short */
-#define SIMD_REFUSED_BLOCK 7     /* a block or state of another size than the width's */
+#define SIMD_REFUSED_BLOCK 7     /* a block or state of another size than the width's; a digest
+                                    of another length than its width asks */
 #define SIMD_REFUSED_FORM 8      /* a stored form of another size than its width's */
 #define SIMD_REFUSED_TAIL 9      /* a stored form with a bit set past the tail */
 #define SIMD_REFUSED_COMMAND 10  /* tape: no such command */
 #define SIMD_REFUSED_END 11      /* tape: ends in a command, or before STOP */
 #define SIMD_REFUSED_ORDER 12    /* tape: OPEN while open; FULL, PART, TAKE while not */
 #define SIMD_REFUSED_TAPE 13     /* program seal: tape above 65,536 bytes; no call here answers it */
+#define SIMD_REFUSED_ENTRY 14    /* page: an entry number above SIMD_NUMBER_MAX */
 
 /* simd_refusal_text - an answer in words, for programs that print it
 
@@ -284,13 +325,14 @@ static inline const char *simd_refusal_text(uint8_t refusal)
     case SIMD_REFUSED_TOTAL: return "more than 4294967295 bits in all";
     case SIMD_REFUSED_HASH: return "the open or keyed hash is none";
     case SIMD_REFUSED_OUTPUT: return "the output is too short";
-    case SIMD_REFUSED_BLOCK: return "the block or state has not the width's size";
+    case SIMD_REFUSED_BLOCK: return "the block, state or digest has not the width's size";
     case SIMD_REFUSED_FORM: return "the stored form has not its width's size";
     case SIMD_REFUSED_TAIL: return "a bit of the stored form is set past its tail";
     case SIMD_REFUSED_COMMAND: return "no such command on the tape";
     case SIMD_REFUSED_END: return "the tape ends in a command or before STOP";
     case SIMD_REFUSED_ORDER: return "the tape opens an open hash, or uses one that is not open";
     case SIMD_REFUSED_TAPE: return "the tape has more than 65536 bytes";
+    case SIMD_REFUSED_ENTRY: return "the entry number is above 999999";
     default: return "no such refusal";
     }
 }
@@ -574,6 +616,39 @@ SIMD_CALL uint8_t simd_compare(uint16_t width,
 SIMD_CALL uint8_t simd_tape(const uint8_t *tape, size_t tape_len,
                             uint8_t *out, size_t out_len,
                             uint64_t *count, uint64_t *place);
+
+/* PAGE
+
+   A page for the ledger binder is the lines of its entries in turn.  Each line has
+   75 columns, of ASCII, and a newline:
+
+     columns 1 to 6    the entry's number in decimal, right-aligned
+     column 7          a space
+     columns 8 to 10   the width, right-aligned
+     column 11         a space
+     columns 12 to 75  the first 64 hexadecimal digits of the digest, lowercase, two
+                       for each byte, filled with spaces on the right
+
+   A digest of more than 64 digits, that is of width 384 or 512, has a second line:
+   11 spaces, then its other digits, filled in the same way.
+
+   Two lists of entries that print one page are one list, order and repetitions
+   included. */
+
+/* simd_page_entry - print one entry of a page
+
+   Writes the entry's lines to the first SIMD_ENTRY(width) bytes of out, with no 0
+   after them.  number is 0 to SIMD_NUMBER_MAX.  Any bytes will do as a digest; a
+   tag is printed in the same way.
+
+   Refusals, in order:
+     SIMD_REFUSED_WIDTH
+     SIMD_REFUSED_BLOCK   digest_len is not SIMD_DIGEST(width)
+     SIMD_REFUSED_ENTRY   number is above SIMD_NUMBER_MAX
+     SIMD_REFUSED_OUTPUT  out_len is below SIMD_ENTRY(width) */
+SIMD_CALL uint8_t simd_page_entry(uint64_t number, uint16_t width,
+                                  const uint8_t *digest, size_t digest_len,
+                                  uint8_t *out, size_t out_len);
 
 #ifdef __cplusplus
 }

@@ -20,6 +20,7 @@ GUARD = 64
 PATTERN = bytes((167 * k + 90) % 256 for k in range(GUARD + 16))
 
 WIDTH, FLAG, BITS, NUMBER = ctypes.c_uint16, ctypes.c_bool, ctypes.c_uint64, ctypes.c_void_p
+ENTRY = ctypes.c_uint64
 SLICE = (ctypes.c_void_p, ctypes.c_size_t)
 
 CALLS = {
@@ -37,6 +38,7 @@ CALLS = {
     "simd_unsteps": (WIDTH, FLAG, *SLICE, *SLICE, *SLICE),
     "simd_compare": (WIDTH, *SLICE, BITS, *SLICE, BITS, NUMBER, NUMBER),
     "simd_tape": (*SLICE, *SLICE, NUMBER, NUMBER),
+    "simd_page_entry": (ENTRY, WIDTH, *SLICE, *SLICE),
 }
 TRACE_CALLS = {
     "trace_transform": (WIDTH, FLAG, *SLICE, *SLICE),
@@ -186,6 +188,10 @@ def compare(width, a, a_bits, b, b_bits, verdict=0, block=0):
 
 def tape(data, out, count=0, place=0):
     return call(library.simd_tape, const(data), Lent(out), LentNumber(count), LentNumber(place))
+
+
+def page_entry(number, width, digest, out):
+    return call(library.simd_page_entry, number, width, const(digest), Lent(out))
 
 
 # The test-only library

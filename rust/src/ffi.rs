@@ -128,4 +128,13 @@ extern "C" {
         count: *mut u64,
         place: *mut u64,
     ) -> u8;
+
+    pub fn simd_page_entry(
+        number: u64,
+        width: u16,
+        digest: *const u8,
+        digest_len: usize,
+        out: *mut u8,
+        out_len: usize,
+    ) -> u8;
 }

@@ -2,11 +2,11 @@
 //!
 //! The names are those of the C header: [`Hash::open`], [`Hash::feed`], [`Hash::take`], [`hash`],
 //! [`Hmac::open`], [`Hmac::feed`], [`Hmac::take`], [`Hmac::check`], [`hmac`], [`expand`], [`steps`],
-//! [`unsteps`], [`compare`], [`tape`]. A width is 224, 256, 384 or 512. A message is bytes and a count
-//! of bits; in a byte the first bit is the highest, and bits past the count in the last byte used have
-//! to be 0. Elsewhere an open hash is called a hashing context, to feed is to update, and to take is
-//! to finalize; here the hash stays open. A keyed seal is a message authentication code, its bytes are
-//! the tag, and to check a tag is to verify it.
+//! [`unsteps`], [`compare`], [`tape`], [`page_entry`]. A width is 224, 256, 384 or 512. A message is
+//! bytes and a count of bits; in a byte the first bit is the highest, and bits past the count in the
+//! last byte used have to be 0. Elsewhere an open hash is called a hashing context, to feed is to
+//! update, and to take is to finalize; here the hash stays open. A keyed seal is a message
+//! authentication code, its bytes are the tag, and to check a tag is to verify it.
 //!
 //! ```
 //! let digest = simd::hash(256, b"", 0)?;
@@ -39,12 +39,14 @@
 
 mod ffi;
 mod keyed;
+mod page;
 mod refusal;
 
 use std::fmt;
 use std::io;
 
 pub use keyed::{hmac, hmac_bytes, Hmac, TakenTag};
+pub use page::{page_entry, NUMBER_MAX};
 pub use refusal::{Refusal, TapeRefusal};
 
 /// The most bits of a message; of a keyed hash, of its key, and of its message with one block for the

@@ -21,7 +21,8 @@ pub enum Refusal {
     Hash = 5,
     /// The output is too short.
     Output = 6,
-    /// A block or state has another size than the width's.
+    /// A block or state has another size than the width's, or a digest another length than its width
+    /// asks.
     Block = 7,
     /// A stored form has another size than its width's.
     Form = 8,
@@ -33,6 +34,8 @@ pub enum Refusal {
     End = 11,
     /// The tape has OPEN while a hash is open, or FULL, PART or TAKE while none is.
     Order = 12,
+    /// The number of an entry is above [`NUMBER_MAX`](crate::NUMBER_MAX).
+    Entry = 14,
 }
 
 impl Refusal {
@@ -50,6 +53,7 @@ impl Refusal {
         Refusal::Command,
         Refusal::End,
         Refusal::Order,
+        Refusal::Entry,
     ];
 
     /// The number that the library answers.
@@ -76,12 +80,13 @@ impl fmt::Display for Refusal {
             Refusal::Total => "more than 4294967295 bits in all",
             Refusal::Hash => "the open or keyed hash is none",
             Refusal::Output => "the output is too short",
-            Refusal::Block => "the block or state has not the width's size",
+            Refusal::Block => "the block, state or digest has not the width's size",
             Refusal::Form => "the stored form has not its width's size",
             Refusal::Tail => "a bit of the stored form is set past its tail",
             Refusal::Command => "no such command on the tape",
             Refusal::End => "the tape ends in a command or before STOP",
             Refusal::Order => "the tape opens an open hash, or uses one that is not open",
+            Refusal::Entry => "the entry number is above 999999",
         })
     }
 }

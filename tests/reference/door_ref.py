@@ -6,6 +6,7 @@ the call of everything that was lent.
 """
 
 import hmac_ref
+import page_ref
 import simd_ref as ref
 import tape_ref
 
@@ -262,3 +263,15 @@ def tape(data, out, count=0, place=0):
     digests, refusal, refused_at = tape_ref.run(data, len(out))
     written = b"".join(digest for _, digest in digests)
     return refusal, over(written, out), len(digests), refused_at if refusal else place
+
+
+def page_entry(number, width, digest, out):
+    refusal = width_refusal(width)
+    if not refusal and len(digest) != width // 8:
+        refusal = 7
+    if not refusal and number > page_ref.NUMBER_MAX:
+        refusal = 14
+    if not refusal:
+        lines = page_ref.entry(number, width, digest)
+        refusal = 6 if len(out) < len(lines) else 0
+    return refusal, out if refusal else over(lines, out)
