@@ -32,7 +32,8 @@ def read_keyed(text):
 
 def arguments(call, field):
     """The arguments, in the order of tests/product.py, from the fields of a line."""
-    lent = {key: LENT[:int(field[key])] for key in ("out", "state", "block", "key", "tag") if key in field}
+    lent = {key: LENT[:int(field[key])] for key in ("out", "state", "block", "key", "tag", "digest")
+            if key in field}
     width = int(field["width"]) if "width" in field else None
     if call == "open":
         return width, LENT[:int(field["form"])]
@@ -57,13 +58,15 @@ def arguments(call, field):
     if call == "compare":
         return (width, read_bytes(field["a"]), int(field["a_bits"]),
                 read_bytes(field["b"]), int(field["b_bits"]), NUMBER, NUMBER)
+    if call == "page_entry":
+        return int(field["number"]), width, lent["digest"], lent["out"]
     raise ValueError(call)
 
 
 # The places, among the arguments, of what each call is lent to write to.
 WRITTEN = {"open": (1,), "feed": (0, 3), "take": (1, 2), "hash": (3,), "hmac_open": (2,),
            "hmac_feed": (0, 3), "hmac_take": (1, 2), "hmac_check": (2,), "hmac": (4,), "expand": (3,),
-           "steps": (4,), "unsteps": (4,), "compare": (5, 6)}
+           "steps": (4,), "unsteps": (4,), "compare": (5, 6), "page_entry": (3,)}
 
 
 def cases(path):

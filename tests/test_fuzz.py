@@ -206,9 +206,16 @@ class Calls:
         tape = tapes.random_tape(self.rng)
         return tape, self.rng.randbytes(self.rng.randrange(257)), self.number(), self.number()
 
+    def page_entry(self):
+        """A number of any count of digits, up to 20, often the greatest allowed or next to it."""
+        rng, width = self.rng, a_width(self.rng)
+        number = rng.choice((min(rng.randrange(10 ** rng.randrange(21)), 2 ** 64 - 1), rng.randrange(10 ** 6),
+                             rng.choice((0, 999998, 999999, 1000000, 2 ** 32 + 1, 2 ** 64 - 1))))
+        return number, width, self.lent(width % 1024 // 8), self.lent(76 if width <= 256 else 152)
+
 
 NAMES = ("open", "feed", "take", "hash", "hmac_open", "hmac_feed", "hmac_take", "hmac_check", "hmac",
-         "expand", "steps", "unsteps", "compare", "tape")
+         "expand", "steps", "unsteps", "compare", "tape", "page_entry")
 
 
 def main():

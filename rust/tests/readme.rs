@@ -17,6 +17,8 @@ let tag = simd::hmac_bytes(256, b"group", b"abc")?;         // a keyed seal
 let mut keyed = simd::Hmac::open(256, b"group")?;           // the same in pieces, also a std::io::Write
 keyed.feed_bytes(b"abc")?;
 println!("{tag} {}", keyed.check(tag.as_bytes()));          // true: exactly the whole tag
+
+print!("{}", simd::page_entry(9, 256, digest.as_bytes())?); // an entry of a page, a line or two
 // end
     Ok(())
 }

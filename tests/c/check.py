@@ -21,6 +21,7 @@ ROOT = os.path.dirname(os.path.dirname(HERE))
 sys.path.insert(0, os.path.dirname(HERE))
 from tally import Tally  # noqa: E402
 import hmac_ref  # noqa: E402
+import page_ref  # noqa: E402
 import simd_ref as ref  # noqa: E402
 import frames  # noqa: E402
 
@@ -111,7 +112,7 @@ def check_compilers():
         written(os.path.join("stubs", name), "")
     status, text, _ = run(["gcc", "-std=c99", "-E", "-P", "-U__GNUC__", "-nostdinc", "-I" + stubs,
                            INCLUDE, os.path.join(BUILT, "alone.c")])
-    tally.equal((status, text.count("uint8_t simd_"), "__attribute__" in text), (0, 14, False),
+    tally.equal((status, text.count("uint8_t simd_"), "__attribute__" in text), (0, 15, False),
                 "no attributes where they are not known")
 
 
@@ -128,12 +129,15 @@ CARELESS_CALLS = [
     ("-Werror=unused-result", "simd_hash(256, form, 1, 8, out, 32);"),
     ("-Werror=unused-result", "simd_tape(form, 1, out, 32, number, number + 1);"),
     ("-Werror=unused-result", "simd_hmac_check(form, 134, out, 32, number);"),
+    ("-Werror=unused-result", "simd_page_entry(1, 256, form, 32, out, 76);"),
     ("-Werror=nonnull", "answer = simd_open(256, NULL, 0);"),
     ("-Werror=nonnull", "answer = simd_feed(form, 134, NULL, 0, 0, number);"),
     ("-Werror=nonnull", "answer = simd_hash(256, NULL, 0, 0, out, 32);"),
     ("-Werror=nonnull", "answer = simd_take(form, 134, out, 32, NULL);"),
     ("-Werror=nonnull", "answer = simd_hmac_open(256, NULL, 0, form, 134);"),
     ("-Werror=nonnull", "answer = simd_hmac_check(form, 134, NULL, 0, number);"),
+    ("-Werror=nonnull", "answer = simd_page_entry(1, 256, NULL, 0, out, 76);"),
+    ("-Werror=nonnull", "answer = simd_page_entry(1, 256, form, 32, NULL, 0);"),
     ("-Werror=overflow", "answer = simd_open(65792, form, sizeof form);"),
 ]
 
@@ -156,9 +160,16 @@ def keyed(key, data):
     return hmac_ref.module_tag(256, key, data).hex() + " right\nwrong\n"
 
 
+def page(data):
+    """What the programs print that enter two digests of a message in a page."""
+    entries = [(number, width, ref.digest(width, data, 8 * len(data))) for number, width in ((9, 256), (10, 512))]
+    return page_ref.page(entries).decode("ascii")
+
+
 def check_examples():
     found = examples(HEADER)
-    tally.equal(sorted(found), ["keyed.c", "stream.c", "vector.cpp", "whole.c"], "the header's examples")
+    tally.equal(sorted(found), ["keyed.c", "page.c", "stream.c", "vector.cpp", "whole.c"],
+                "the header's examples")
     for name, text in found.items():
         source = written(name, text)
         for compiler in compilers(source):
@@ -169,6 +180,8 @@ def check_examples():
                 tally.equal(run([built]), (0, digest(256, b"abc"), ""), name)
             elif name == "keyed.c":
                 tally.equal(run([built]), (0, keyed(b"group", b"abc"), ""), name)
+            elif name == "page.c":
+                tally.equal(run([built]), (0, page(b"abc"), ""), name)
             elif name == "vector.cpp":
                 tally.equal(run([built]), (0, digest(512, b""), ""), name)
             else:
@@ -190,10 +203,13 @@ def check_stream(built):
 
 
 def check_readme():
-    """README's programs in C, as they stand."""
-    texts = fenced(read("README.md"), "c")
-    printed = [digest(256, b"abc"), keyed(b"group", b"abc")]
+    """README's programs in C, as they stand, and what it shows of the last two's output."""
+    readme = read("README.md")
+    texts = fenced(readme, "c")
+    printed = [digest(256, b"abc"), keyed(b"group", b"abc"), page(b"abc")]
     tally.equal(len(texts), len(printed), "the programs in C")
+    for expected in printed[1:]:
+        tally.equal("\n```\n%s```\n" % expected in readme, True, "README's output of a program in C")
     for text, expected in zip(texts, printed):
         built = program(written("readme.c", text), ["gcc", "-std=c99"])
         if built:
@@ -216,13 +232,13 @@ int main(void)
 def check_texts():
     """A text of its own for each number; one version in all places."""
     numbers = [int(n) for n in re.findall(r"^#define SIMD_(?:ACCEPTED|REFUSED_\w+) (\d+)", HEADER, re.M)]
-    tally.equal(numbers, list(range(14)), "the numbers")
+    tally.equal(numbers, list(range(15)), "the numbers")
     built = program(written("texts.c", TEXTS), ["gcc", "-std=c99"])
     if not built:
         return
     *texts, joined, version = run([built])[1].splitlines()
-    tally.equal(len(set(texts[:14])), 14, "a text for each number")
-    tally.equal(set(texts[14:]), {"no such refusal"}, "no text for other numbers")
+    tally.equal(len(set(texts[:15])), 15, "a text for each number")
+    tally.equal(set(texts[15:]), {"no such refusal"}, "no text for other numbers")
     tally.equal(version, joined, "SIMD_VERSION and its parts")
     cargo = re.search(r'^version = "(.*)"', read("rust", "Cargo.toml"), re.M).group(1)
     tally.equal(cargo, version, "the version in rust/Cargo.toml")

@@ -1,7 +1,7 @@
 /* Use of include/simd.h from C: hash, feed in pieces, store, restore, seal under
-   a key, compare, run a tape.  Prints how many answers it checked; the exit status
-   is 0 where all were right.  The digests are those of appendix A, the tags those
-   of tests/reference/hmac_ref.py. */
+   a key, compare, run a tape, print a page.  Prints how many answers it checked; the
+   exit status is 0 where all were right.  The digests are those of appendix A, the
+   tags those of tests/reference/hmac_ref.py, the pages those of printf. */
 
 #include <stdio.h>
 #include <string.h>
@@ -240,6 +240,64 @@ static void check_tape(const struct vector *v)
           "tape without STOP");
 }
 
+enum { ENTRIES = 9, GUARD = 8 };
+
+/* Entries in one buffer, with guard bytes on both sides, each beside what snprintf
+   makes of the digest of one block; then the refusals, in their order. */
+static void check_page(const struct vector *v)
+{
+    static const uint64_t NUMBERS[ENTRIES] = {0, 9, 10, 99, 1000, 99999, 100000, 999998, 999999};
+    uint8_t message[SIMD_BLOCK_LARGE], digest[SIMD_DIGEST_MAX + 1] = {0};
+    uint8_t page[GUARD + ENTRIES * SIMD_ENTRY_MAX + GUARD], kept[sizeof page];
+    char expected[SIMD_ENTRY_MAX + 1];
+    size_t size = SIMD_ENTRY(v->width), digest_len = SIMD_DIGEST(v->width), at = GUARD, k;
+    uint8_t *out = page + GUARD;
+    for (k = 0; k < sizeof message; k++)
+        message[k] = (uint8_t)k;
+    check(simd_hash(v->width, message, sizeof message, 8 * (uint64_t)SIMD_BLOCK(v->width), digest,
+                    digest_len)
+              == SIMD_ACCEPTED,
+          "a digest to print");
+    memset(page, 0x5a, sizeof page);
+    for (k = 0; k < ENTRIES; k++, at += size) {
+        int len = snprintf(expected, sizeof expected, "%6lu %3u %-64.64s\n",
+                           (unsigned long)NUMBERS[k], (unsigned)v->width, v->block_digest);
+        if (v->width > 256)
+            len += snprintf(expected + len, sizeof expected - (size_t)len, "%11s%-64s\n", "",
+                            v->block_digest + 64);
+        check((size_t)len == size, "the size of an entry");
+        check(simd_page_entry(NUMBERS[k], v->width, digest, digest_len, page + at, size)
+                      == SIMD_ACCEPTED
+                  && memcmp(page + at, expected, size) == 0,
+              "an entry");
+    }
+    memset(kept, 0x5a, sizeof kept);
+    check(memcmp(page, kept, GUARD) == 0 && memcmp(page + at, kept, sizeof page - at) == 0,
+          "what lies round a page");
+
+    memset(page, 0x5a, sizeof page);
+    check(simd_page_entry(1000000, v->width + 1, digest, digest_len - 1, out, size - 1)
+                  == SIMD_REFUSED_WIDTH
+              && simd_page_entry(1000000, v->width, digest, digest_len - 1, out, size - 1)
+                     == SIMD_REFUSED_BLOCK
+              && simd_page_entry(0, v->width, digest, digest_len + 1, out, size)
+                     == SIMD_REFUSED_BLOCK
+              && simd_page_entry(1000000, v->width, digest, digest_len, out, size - 1)
+                     == SIMD_REFUSED_ENTRY
+              && simd_page_entry(UINT64_C(4294967297), v->width, digest, digest_len, out, size)
+                     == SIMD_REFUSED_ENTRY
+              && simd_page_entry(SIMD_NUMBER_MAX, v->width, digest, digest_len, out, size - 1)
+                     == SIMD_REFUSED_OUTPUT
+              && memcmp(page, kept, sizeof page) == 0,
+          "refusals of a page");
+    /* What is expected is still the last entry above. */
+    check(simd_page_entry(SIMD_NUMBER_MAX, v->width, digest, digest_len, out, size + 9)
+                  == SIMD_ACCEPTED
+              && memcmp(out, expected, size) == 0
+              && memcmp(out + size, kept, sizeof page - GUARD - size) == 0,
+          "an entry in a longer output");
+}
+
 int main(void)
 {
     size_t k;
@@ -250,6 +308,7 @@ int main(void)
         check_steps(&VECTORS[k]);
         check_compare(&VECTORS[k]);
         check_tape(&VECTORS[k]);
+        check_page(&VECTORS[k]);
     }
     printf("c: %u compared, %u differ\n", compared, differ);
     return differ != 0;

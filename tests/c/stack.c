@@ -21,8 +21,8 @@ static ucontext_t outside, inside;
 static uint16_t width;
 static uint8_t form[SIMD_FORM_LARGE], keyed[SIMD_HMAC_FORM_LARGE], a[LONG], b[LONG], out[LONG];
 static uint32_t words[SIMD_WORDS_LARGE];
-static size_t form_len, keyed_len, key_len, tag_len, block_len, tape_len;
-static uint64_t bits, other_bits, number, second;
+static size_t form_len, keyed_len, key_len, tag_len, block_len, tape_len, digest_len, entry_len;
+static uint64_t bits, other_bits, number, second, entry;
 static volatile uint8_t answer;
 
 /* The stack pointer before the call's arguments are put in place. */
@@ -113,6 +113,12 @@ static void call_tape(void)
     answer = simd_tape(b, tape_len, out, sizeof out, &number, &second);
 }
 
+static void call_page_entry(void)
+{
+    MARK();
+    answer = simd_page_entry(entry, width, a, digest_len, out, entry_len);
+}
+
 static struct bound {
     const char *name;
     size_t bound, used;
@@ -133,10 +139,11 @@ static struct bound {
     {"simd_unsteps", SIMD_STACK_UNSTEPS, 0, call_unsteps, 0, 0},
     {"simd_compare", SIMD_STACK_COMPARE, 0, call_compare, 0, 0},
     {"simd_tape", SIMD_STACK_TAPE, 0, call_tape, 0, 0},
+    {"simd_page_entry", SIMD_STACK_PAGE_ENTRY, 0, call_page_entry, 0, 0},
 };
 enum {
     OPEN, FEED, TAKE, HASH, HMAC_OPEN, HMAC_FEED, HMAC_TAKE, HMAC_CHECK, HMAC,
-    EXPAND, STEPS, UNSTEPS, COMPARE, TAPE, CALLS
+    EXPAND, STEPS, UNSTEPS, COMPARE, TAPE, PAGE_ENTRY, CALLS
 };
 
 static uint64_t pattern(size_t k)
@@ -223,6 +230,26 @@ static void measure_keyed(uint64_t tail, uint64_t count)
     measure(HMAC);
 }
 
+/* An entry of every kind of number; then one for which the digest is a byte short,
+   and one for which the output is. */
+static void measure_entries(void)
+{
+    static const uint64_t NUMBERS[] = {0, 10, 99999, 100000, 999999, 1000000, UINT64_MAX};
+    size_t k;
+    digest_len = SIMD_DIGEST(width);
+    entry_len = SIMD_ENTRY(width);
+    for (k = 0; k < sizeof NUMBERS / sizeof *NUMBERS; k++) {
+        entry = NUMBERS[k];
+        measure(PAGE_ENTRY);
+    }
+    entry = 1;
+    digest_len--;
+    measure(PAGE_ENTRY);
+    digest_len++;
+    entry_len--;
+    measure(PAGE_ENTRY);
+}
+
 int main(void)
 {
     static const uint16_t WIDTHS[] = {224, 256, 384, 512, 160};
@@ -271,6 +298,7 @@ int main(void)
         measure(TAPE);
         tape_len--;
         measure(TAPE);
+        measure_entries();
     }
     for (k = 0; k < CALLS; k++) {
         const struct bound *bound = &BOUNDS[k];
