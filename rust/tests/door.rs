@@ -1,11 +1,13 @@
-//! The wrapper against the digests of appendix A and the formula of keyed seals, and its refusals.
+//! The wrapper against the digests of appendix A, the formula of keyed seals and the lines of a page,
+//! and its refusals.
 
 use std::fs;
 use std::io::Write;
 use std::path::Path;
 
 use simd::{
-    compare, expand, hash, hash_bytes, hmac, hmac_bytes, steps, tape, Hash, Hmac, Refusal, Verdict,
+    compare, expand, hash, hash_bytes, hmac, hmac_bytes, page_entry, steps, tape, Hash, Hmac,
+    Refusal, Verdict, NUMBER_MAX,
 };
 
 const WIDTHS: [u16; 4] = [224, 256, 384, 512];
@@ -343,12 +345,88 @@ fn clones_and_text_of_keyed_hashes() {
     assert_eq!(format!("{keyed:?}"), "Hmac { width: 256, bits: 3, .. }");
 }
 
+/// The lines of an entry by the formatting of Rust's own library.
+fn lines(number: u64, width: u16, digits: &str) -> String {
+    let (front, back) = digits.split_at(digits.len().min(64));
+    let first = format!("{number:>6} {width:>3} {front:<64}\n");
+    if back.is_empty() {
+        return first;
+    }
+    format!("{first}{:11}{back:<64}\n", "")
+}
+
+/// Lines of tests/reference/page_ref.py.
+#[test]
+fn entries_of_the_reference() {
+    for (number, width, expected) in [
+        (
+            0,
+            224,
+            "     0 224 000102030405060708090a0b0c0d0e0f101112131415161718191a1b        \n",
+        ),
+        (
+            99_999,
+            384,
+            " 99999 384 000102030405060708090a0b0c0d0e0f101112131415161718191a1b1c1d1e1f\n           \
+             202122232425262728292a2b2c2d2e2f                                \n",
+        ),
+    ] {
+        let digest: Vec<u8> = (0..(width / 8) as u8).collect();
+        assert_eq!(page_entry(number, width, &digest).unwrap(), expected);
+        let digits: String = digest.iter().map(|byte| format!("{byte:02x}")).collect();
+        assert_eq!(lines(number, width, &digits), expected);
+    }
+}
+
+/// Every digest of appendix A under every kind of number, one after the other.
+#[test]
+fn a_page_is_the_entries_in_turn() {
+    let (mut page, mut expected) = (String::new(), String::new());
+    for m in messages() {
+        for number in [0, 9, 10, 99_999, 100_000, NUMBER_MAX] {
+            let digest = hash(m.width, &m.data, m.bits).unwrap();
+            let entry = page_entry(number, m.width, digest.as_bytes()).unwrap();
+            assert_eq!(entry.len(), if m.width > 256 { 152 } else { 76 });
+            page += &entry;
+            expected += &lines(number, m.width, &m.digest);
+        }
+    }
+    assert_eq!(page, expected);
+    assert!(page.lines().all(|line| line.len() == 75));
+    assert_eq!(page.len(), 76 * page.lines().count());
+}
+
+/// 1, 7 and 14, in this order; there is always room.
+#[test]
+fn refusals_of_entries() {
+    for width in WIDTHS {
+        let len = usize::from(width / 8);
+        let digest = vec![0xa5; len + 1];
+        assert!(page_entry(NUMBER_MAX, width, &digest[..len]).is_ok());
+        for number in [NUMBER_MAX + 1, 1 << 32, u64::MAX] {
+            let refused = page_entry(number, width, &digest[..len]);
+            assert_eq!(refused, Err(Refusal::Entry));
+        }
+        for number in [0, NUMBER_MAX + 1] {
+            for wrong in [0, len - 1, len + 1] {
+                let refused = page_entry(number, width, &digest[..wrong]);
+                assert_eq!(refused, Err(Refusal::Block));
+            }
+            for wrong in [0, len - 1, len] {
+                let refused = page_entry(number, width + 1, &digest[..wrong]);
+                assert_eq!(refused, Err(Refusal::Width));
+            }
+        }
+    }
+}
+
 #[test]
 fn refusals_have_numbers_and_words() {
     assert_eq!(Refusal::Width.number(), 1);
     assert_eq!(Refusal::Hash.number(), 5);
     assert_eq!(Refusal::Output.number(), 6);
     assert_eq!(Refusal::Order.number(), 12);
+    assert_eq!(Refusal::Entry.number(), 14);
     assert_eq!(Refusal::Output.to_string(), "the output is too short");
 }
 
@@ -434,7 +512,7 @@ fn whole_bytes() {
 fn texts_are_those_of_the_header() {
     let header = include_str!("../../include/simd.h");
     let mut found = 0;
-    for number in 1..=12 {
+    for number in 1..=14 {
         let define = header
             .lines()
             .find(|line| {
@@ -460,5 +538,6 @@ fn texts_are_those_of_the_header() {
             found += 1;
         }
     }
-    assert_eq!(found, 12);
+    // 13 is the program's.
+    assert_eq!((found, Refusal::ALL.len()), (13, 13));
 }
