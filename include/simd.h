@@ -288,7 +288,7 @@ extern "C" {
 #define SIMD_STACK_UNSTEPS 5632
 #define SIMD_STACK_COMPARE 8192
 #define SIMD_STACK_TAPE 10240
-#define SIMD_STACK_PAGE_ENTRY 256
+#define SIMD_STACK_PAGE_ENTRY 448
 #define SIMD_STACK_MAX 13312    /* of all calls */
 
 /* REFUSALS */

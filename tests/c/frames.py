@@ -6,13 +6,18 @@ The most over all ways through the code: what a function pushes and sets aside,
 and what the functions that it calls need.  The return address is part of it,
 arguments that the caller pushed are not.  A function of the C library counts
 its return address only.  An instruction that changes the stack pointer in a way
-unknown here, a call through a register and a recursion are errors.
+unknown here, a call through a register and a recursion that is not named in
+DEPTHS are errors.
 """
 
 import re
 import subprocess
 
 ADDRESS = 8     # of a return
+
+# The functions that call themselves, and how deep: a number on a page has at
+# most six digits.
+DEPTHS = {"text::digits": 6}
 
 
 class Instruction:
@@ -81,6 +86,8 @@ def frame(name, body):
                     raise ValueError("%s returns with %d bytes in use" % (name, depth))
                 break
             if text.startswith("call"):
+                if not target and text.endswith(" 0 <%s>" % name):
+                    target = name
                 if not target or "*" in text:
                     raise ValueError("%s: %s" % (name, text))
                 calls.append((target, depth + ADDRESS))
@@ -110,7 +117,9 @@ def bounds(archive):
         if name not in known:
             known[name] = None
             most, calls = frame(name, bodies[name])
-            known[name] = max([most] + [used + need(target) for target, used in calls])
+            again = max([used for target, used in calls if target == name], default=0)
+            others = [used + need(target) for target, used in calls if target != name or name not in DEPTHS]
+            known[name] = (DEPTHS.get(name, 1) - 1) * again + max([most] + others)
         if known[name] is None:
             raise ValueError("recursion: " + name)
         return known[name]
