@@ -1,14 +1,17 @@
 -- What holds of all pages: where their lines end, and that no two lists of entries print one page.
 use mathlib.Core.List.{List, [], _∷_, _++_, append-assoc}
 use mathlib.Core.Path.{_≡_, refl, sym, ap, _∙_}
-use Prim.Native.Nat.{ℕ, _<_}
+use Prim.Native.Nat.{ℕ, _+_, _-_, _<_, _≤_}
 use native.Mathlib.Omega.{arith}
-use lib.ListN.{length, getD, drop, length-append}
-use lib.Seq.{drop-append-seam}
+use borrow.Author.Tests.{le-leb}
+use lib.ListN.{length, getD, take, drop, length-append, length-drop}
+use lib.Seq.{drop-append-seam, take-at, drop-at, drop-drop}
 use Rattle.simd.specs.Basic.{digestBytes}
 use Rattle.text.specs.Text.{hex}
+use Rattle.hash.specs.Open.{first, written}
+use Rattle.hash.proofs.Refusing.{written-accepted}
 use Rattle.text.proofs.Words.{length-hex}
-use Rattle.ledger.specs.Page.{Entry, entryLines, entryBytes, page, entryRefusal}
+use Rattle.ledger.specs.Page.{Entry, entryLines, entryBytes, page, entryRefusal, printRefusal}
 use Rattle.ledger.proofs.Columns.{Facts, facts, length-entry, one-at-least}
 use Rattle.ledger.proofs.Reading.{hex-only}
 use Rattle.ledger.proofs.LineEnds.{Lines, lines-none, lines-append, entry-lines}
@@ -94,6 +97,54 @@ page-append [] b = refl
 page-append (e ∷ a) b =
     let this = entryLines (e .number) (e .width) (e .digest) in
     ap (λ (l : List ℕ). this ++ l) (page-append a b) ∙ sym (append-assoc this (page a) (page b))
+
+-- The call made for one entry after the other, each time for the bytes behind the last entry: the buffer afterwards, and the sum of the refusals.
+unfoldable pub printed : List Entry → List ℕ → List ℕ
+printed [] out = out
+printed (e ∷ entries) out =
+    let left = written (printRefusal (e .number) (e .width) (e .digest) (length out)) (entryLines (e .number) (e .width) (e .digest)) out in
+    take (entryBytes (e .width)) left ++ printed entries (drop (entryBytes (e .width)) left)
+
+unfoldable pub refusals : List Entry → ℕ → ℕ
+refusals [] room = 0
+refusals (e ∷ entries) room = printRefusal (e .number) (e .width) (e .digest) room + refusals entries (room - entryBytes (e .width))
+
+print-accepted : (e : Entry) → Accepted e → (room : ℕ) → entryBytes (e .width) ≤ room → printRefusal (e .number) (e .width) (e .digest) room ≡ 0
+unfolding printRefusal first
+print-accepted e g room enough = rw (g .unrefused, le-leb (entryBytes (e .width)) room enough)
+
+-- With room for the page no call is refused, and the page stands at the front of the buffer, whose other bytes are as they were.
+pub none-refused : (entries : List Entry) → AllAccepted entries → (room : ℕ) → length (page entries) ≤ room → refusals entries room ≡ 0
+unfolding refusals page AllAccepted
+none-refused [] _ room enough = refl
+none-refused (e ∷ entries) g room enough =
+    let this = entryLines (e .number) (e .width) (e .digest) in
+    let size = exact-bytes e (g .0) in
+    let both = length-append this (page entries) in
+    rw (
+      print-accepted e (g .0) room (omega (arith, enough, both, size)),
+      none-refused entries (g .1) (room - entryBytes (e .width)) (omega (arith, enough, both, size)),
+    )
+
+pub printed-page : (entries : List Entry) → AllAccepted entries → (out : List ℕ) → length (page entries) ≤ length out
+    → printed entries out ≡ page entries ++ drop (length (page entries)) out
+unfolding printed page AllAccepted
+printed-page [] _ out enough = refl
+printed-page (e ∷ entries) g out enough =
+    let this = entryLines (e .number) (e .width) (e .digest) in
+    let n = entryBytes (e .width) in
+    let size = exact-bytes e (g .0) in
+    let both = length-append this (page entries) in
+    let rest = drop (length this) out in
+    let left : written (printRefusal (e .number) (e .width) (e .digest) (length out)) this out ≡ this ++ rest =
+    written-accepted _ this out (print-accepted e (g .0) (length out) (omega (arith, enough, both, size))) in
+    let more = printed-page entries (g .1) rest (omega (arith, enough, both, length-drop (length this) out)) in
+    (λ i. take n (left i) ++ printed entries (drop n (left i)))
+    ∙ (λ i. take-at this rest n size i ++ printed entries (drop-at this rest n size i))
+    ∙ ap (λ (l : List ℕ). this ++ l) more
+    ∙ sym (append-assoc this (page entries) (drop (length (page entries)) rest))
+    ∙ ap (λ (l : List ℕ). this ++ page entries ++ l) (drop-drop (length (page entries)) (length this) out)
+    ∙ ap (λ (k : ℕ). this ++ page entries ++ drop k out) (sym both)
 
 -- Two lists of entries that print one page are one list, order and repetition included.
 pub distinct-pages : (a b : List Entry) → AllAccepted a → AllAccepted b → page a ≡ page b → a ≡ b
