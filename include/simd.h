@@ -20,9 +20,10 @@
      is to verify it.
 
    MESSAGES
-     A message is a string of bits, given as bytes and a count of bits.  In a
-     byte the first bit is the highest.  Bytes after the last one used are
-     ignored; bits after the last one in that byte have to be 0.
+     A message is a string of bits, given as bytes and a count of bits; so is a
+     piece of one, and PART of a tape.  In a byte the first bit is the highest.
+     What is past the count is ignored, in the last byte used and in the bytes
+     behind it: it may be anything, and no answer depends on it.
 
    ANSWERS
      Each call returns 0, or the number of the refusal.  Where several
@@ -296,7 +297,8 @@ extern "C" {
 #define SIMD_ACCEPTED 0
 #define SIMD_REFUSED_WIDTH 1     /* the width is none of the four */
 #define SIMD_REFUSED_COUNT 2     /* more bits than the bytes have */
-#define SIMD_REFUSED_SPARE 3     /* a bit set past the count in the last byte used */
+#define SIMD_REFUSED_SPARE 3     /* retired: no call answers it since bits past the count are
+                                    ignored; the name stays so that callers compile */
 #define SIMD_REFUSED_TOTAL 4     /* more than SIMD_BITS_MAX bits in all; also of a key, and of
                                     a message with one key block */
 #define SIMD_REFUSED_HASH 5      /* an open hash that is none; here, two stored forms that no
@@ -314,14 +316,14 @@ extern "C" {
 
 /* simd_refusal_text - an answer in words, for programs that print it
 
-   Never null; a number that no call answers has a text of its own. */
+   Never null; a number that stands for no refusal has a text of its own. */
 static inline const char *simd_refusal_text(uint8_t refusal)
 {
     switch (refusal) {
     case SIMD_ACCEPTED: return "accepted";
     case SIMD_REFUSED_WIDTH: return "the width is none of 224, 256, 384 and 512";
     case SIMD_REFUSED_COUNT: return "more bits than the bytes have";
-    case SIMD_REFUSED_SPARE: return "a bit is set past the count";
+    case SIMD_REFUSED_SPARE: return "retired: bits past the count are ignored";
     case SIMD_REFUSED_TOTAL: return "more than 4294967295 bits in all";
     case SIMD_REFUSED_HASH: return "the open or keyed hash is none";
     case SIMD_REFUSED_OUTPUT: return "the output is too short";
@@ -351,7 +353,8 @@ static inline const char *simd_refusal_text(uint8_t refusal)
    order A0, A1, .., B0, .., D3 or D7), then one block with the bits that fill no
    block yet and zeros after them.  To store a hash is to keep these bytes.
    A form with a state that no message reaches is accepted, and what follows is
-   worked out from that state.
+   worked out from that state.  The zeros after the tail belong to the form: it is
+   not a piece, and a bit set there is refused.
 
    A form handed over is refused with
      SIMD_REFUSED_FORM    form_len is below 2
@@ -375,12 +378,12 @@ SIMD_CALL uint8_t simd_open(uint16_t width, uint8_t *form, size_t form_len);
 
    Feeds the first bits bits of piece to the hash in form, in place.  They
    follow directly on the bits fed before, also where those are no whole number
-   of bytes.  bits may be 0.  *blocks becomes the number of blocks compressed.
+   of bytes.  bits may be 0.  Two pieces that agree in their first bits bits leave
+   one form.  *blocks becomes the number of blocks compressed.
 
    Refusals, in order:
      those of a form
      SIMD_REFUSED_COUNT   bits is above 8 * piece_len
-     SIMD_REFUSED_SPARE   a bit after the last one is set in its byte
      SIMD_REFUSED_TOTAL   the hash would have more than SIMD_BITS_MAX bits */
 SIMD_CALL uint8_t simd_feed(uint8_t *form, size_t form_len,
                             const uint8_t *piece, size_t piece_len, uint64_t bits,
@@ -410,7 +413,6 @@ SIMD_CALL uint8_t simd_take(const uint8_t *form, size_t form_len,
    Refusals, in order:
      SIMD_REFUSED_WIDTH
      SIMD_REFUSED_COUNT   bits is above 8 * message_len
-     SIMD_REFUSED_SPARE   a bit after the last one is set in its byte
      SIMD_REFUSED_TOTAL   bits is above SIMD_BITS_MAX
      SIMD_REFUSED_OUTPUT  out_len is below SIMD_DIGEST(width) */
 SIMD_CALL uint8_t simd_hash(uint16_t width, const uint8_t *message, size_t message_len,
@@ -465,7 +467,6 @@ SIMD_CALL uint8_t simd_hmac_open(uint16_t width, const uint8_t *key, size_t key_
    Refusals, in order:
      those of a keyed form
      SIMD_REFUSED_COUNT   bits is above 8 * piece_len
-     SIMD_REFUSED_SPARE   a bit after the last one is set in its byte
      SIMD_REFUSED_TOTAL   key block and message would have more than SIMD_BITS_MAX
                           bits */
 SIMD_CALL uint8_t simd_hmac_feed(uint8_t *form, size_t form_len,
@@ -507,7 +508,6 @@ SIMD_CALL uint8_t simd_hmac_check(const uint8_t *form, size_t form_len,
      SIMD_REFUSED_WIDTH
      SIMD_REFUSED_TOTAL   8 * key_len is above SIMD_BITS_MAX
      SIMD_REFUSED_COUNT   bits is above 8 * message_len
-     SIMD_REFUSED_SPARE   a bit after the last one is set in its byte
      SIMD_REFUSED_TOTAL   bits and those of a key block, 8 * SIMD_BLOCK(width), are
                           above SIMD_BITS_MAX
      SIMD_REFUSED_OUTPUT  tag_len is below SIMD_DIGEST(width) */
@@ -561,7 +561,7 @@ SIMD_CALL uint8_t simd_unsteps(uint16_t width, bool last,
 /* simd_compare - compare two messages under one width
 
    *verdict becomes
-     SIMD_SAME   lengths and bits are equal
+     SIMD_SAME   lengths and bits are equal, whatever is past the counts
      SIMD_APART  the messages differ, and so do their final states
      SIMD_MEET   the messages differ and their final states are equal: a
                  collision of the whole state
@@ -576,9 +576,8 @@ SIMD_CALL uint8_t simd_unsteps(uint16_t width, bool last,
    Refusals, in order:
      SIMD_REFUSED_WIDTH
      SIMD_REFUSED_COUNT   of a: a_bits is above 8 * a_len
-     SIMD_REFUSED_SPARE   of a: a bit after the last one is set in its byte
      SIMD_REFUSED_TOTAL   of a: a_bits is above SIMD_BITS_MAX
-     the same three of b */
+     the same two of b */
 SIMD_CALL uint8_t simd_compare(uint16_t width,
                                const uint8_t *a, size_t a_len, uint64_t a_bits,
                                const uint8_t *b, size_t b_len, uint64_t b_bits,
@@ -590,12 +589,13 @@ SIMD_CALL uint8_t simd_compare(uint16_t width,
 
      01  OPEN  width (2 bytes, little endian)   opens a hash
      02  FULL  32 bytes                         feeds 256 bits
-     03  PART  count (1 byte), 32 bytes         feeds count bits, 0 to 255
+     03  PART  count (1 byte), 32 bytes         feeds the first count bits, 0 to 255
      04  TAKE                                   writes a digest, closes the hash
      05  STOP                                   ends the tape; also with a hash open
 
-   Command bytes are hexadecimal.  Digests are written to out straight after
-   each other.  Bytes after STOP are not read.
+   Command bytes are hexadecimal.  A PART has 32 bytes whatever its count; the bits
+   past the count are ignored.  Digests are written to out straight after each
+   other.  Bytes after STOP are not read.
 
    *count becomes the number of digests written, on every answer.  On a refusal
    *place becomes the offset in the tape of the command that is refused, and
@@ -609,7 +609,6 @@ SIMD_CALL uint8_t simd_compare(uint16_t width,
      SIMD_REFUSED_ORDER   OPEN while a hash is open, or FULL, PART or TAKE while
                           none is
      SIMD_REFUSED_WIDTH   OPEN
-     SIMD_REFUSED_SPARE   PART: a bit of the 32 bytes is set past the count
      SIMD_REFUSED_TOTAL   FULL, PART: the hash would have more than SIMD_BITS_MAX
                           bits
      SIMD_REFUSED_OUTPUT  TAKE: less of out is left than the digest needs */

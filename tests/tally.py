@@ -58,6 +58,11 @@ def message(rng, bits):
     return bytes(data)
 
 
+def cleaned(data, bits):
+    """The bytes that a message uses, zeros after its last bit; all as they are if they have not so many bits."""
+    return bits_of(data, 0, bits) if bits <= 8 * len(data) else data
+
+
 def bits_of(data, start, count):
     """Some bits of a byte string, as a piece of their own."""
     value = int.from_bytes(data, "big") >> (8 * len(data) - start - count)

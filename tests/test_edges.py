@@ -2,13 +2,14 @@
 """The refusals of tests/edges/cases.txt.
 
 Each case is held to the refusal that its line states and to the reference's
-answer; a refused call leaves everything it was lent as it was.
+answer, of the arguments as they are and of those with zeros past the counts; a
+refused call leaves everything it was lent as it was.
 """
 
 import os
 import sys
 
-from tally import HERE, Tally, read_bytes
+from tally import HERE, Tally, cleaned, read_bytes
 import door_ref
 import product
 
@@ -69,6 +70,18 @@ WRITTEN = {"open": (1,), "feed": (0, 3), "take": (1, 2), "hash": (3,), "hmac_ope
            "steps": (4,), "unsteps": (4,), "compare": (5, 6), "page_entry": (3,)}
 
 
+# The places of each piece or message and of its count behind it.
+COUNTED = {"feed": (1,), "hash": (1,), "hmac_feed": (1,), "hmac": (2,), "compare": (1, 3)}
+
+
+def with_zeros(call, args):
+    """The arguments with what is past each count cleared or left out."""
+    args = list(args)
+    for k in COUNTED.get(call, ()):
+        args[k] = cleaned(args[k], args[k + 1])
+    return args
+
+
 def cases(path):
     """(line number, call, arguments, refusal) of each case."""
     with open(path, encoding="ascii") as f:
@@ -91,6 +104,7 @@ def main():
         result = getattr(product, call)(*args)
         tally.equal(result[0], refusal, what + ": refusal")
         tally.equal(result, getattr(door_ref, call)(*args), what + ": answer")
+        tally.equal(result, getattr(door_ref, call)(*with_zeros(call, args)), what + ": answer to the cleaned input")
         if refusal:
             tally.equal(list(result[1:]), [args[k] for k in WRITTEN[call]], what + ": unchanged")
         count += 1

@@ -285,13 +285,16 @@ def check_limit(tally):
                 tally.equal(found[0], refusal, what + ": refusal")
                 if refusal:
                     tally.equal(found, (refusal, form, NUMBER), what + ": all as it was")
-                    # 2 and 3 come first.
+                    # 2 comes first; a bit past the count is ignored.
                     tally.equal(product.hmac_feed(form, piece, 8 * len(piece) + 1, NUMBER), (2, form, NUMBER),
                                 what + ": 2")
                     if count % 8:
-                        tally.equal(product.hmac_feed(form, with_bit(piece), count, NUMBER), (3, form, NUMBER),
-                                    what + ": 3")
+                        tally.equal(product.hmac_feed(form, with_bit(piece), count, NUMBER), (4, form, NUMBER),
+                                    what + ": a bit past the count")
                     continue
+                if count % 8:
+                    tally.equal(product.hmac_feed(form, with_bit(piece), count, NUMBER), found,
+                                what + ": a bit past the count")
                 full = found[1]
                 tally.equal(int.from_bytes(full[2:6], "little"), LIMIT, what + ": its length")
                 taken = product.hmac_take(full, bytes(width // 8), NUMBER)

@@ -127,7 +127,9 @@ def check_manuals(tally):
         declared = set(re.findall(r"uint8_t (simd_\w+)\(", f.read()))
     tally.equal(set(re.findall(r"uint8_t (simd_\w+)\(", texts["simd.3"])), declared, "simd.3: the calls")
     numbers = re.findall(r"^\.B (\d+)$", texts["seal.1"], re.M)
-    tally.equal(numbers, ["1", "3", "4", "10", "11", "12", "13", "0", "1", "2"], "seal.1: refusals, statuses")
+    tally.equal(numbers, ["1", "4", "10", "11", "12", "13", "0", "1", "2"], "seal.1: refusals, statuses")
+    for name, line in (("seal.1", "Number 3 is retired"), ("simd.3", "is retired: no call answers it")):
+        tally.equal(sum(text.startswith(line) for text in texts[name].splitlines()), 1, name + ": what is retired")
 
 
 def main():

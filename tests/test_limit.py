@@ -71,15 +71,22 @@ def check_messages(tally):
     zeros = map_memory(ZEROS)
     end = (ctypes.c_uint8 * PAGE).from_address(zeros + ZEROS - PAGE)
 
-    out = Output(64)
-    tally.equal(door.simd_hash(512, zeros, 2 ** 29, LIMIT, *out.arguments()), 0, "hash at the limit")
-    tally.equal(out.contents()[0], baseline_digest(512, zeros, LIMIT), "digest at the limit")
+    # The one bit of the last byte that is past the limit is ignored, and so is the byte behind it.
+    digest = baseline_digest(512, zeros, LIMIT)
+    last = ctypes.c_uint8.from_address(zeros + 2 ** 29 - 1)
+    for size, last.value in ((2 ** 29, 0), (2 ** 29 + 1, 1)):
+        end[0] = 0xFF
+        out = Output(64)
+        what = "%d bits in %d bytes, %d past them" % (LIMIT, size, last.value)
+        tally.equal(door.simd_hash(512, zeros, size, LIMIT, *out.arguments()), 0, what + ": hash")
+        tally.equal(out.contents()[0], digest, what + ": digest")
+    last.value = 0
 
     # (bytes, bits, the byte after the limit, refusal)
     for size, bits, last, refusal in (
             (2 ** 29, LIMIT + 1, 0, 4),
             (2 ** 29 + 1, LIMIT + 2, 0x80, 4),
-            (2 ** 29 + 1, LIMIT + 2, 0xC0, 3),
+            (2 ** 29 + 1, LIMIT + 2, 0xC0, 4),
             (2 ** 29 + 1, LIMIT + 10, 0xC0, 2)):
         end[0] = last
         what = "%d bits in %d bytes: " % (bits, size)
@@ -114,7 +121,7 @@ def check_keys(tally):
     tally.equal(out.contents()[0], product.hmac_open(256, hashed, bytes(268))[1], "the longest key, hashed")
 
     for size in (most + 1, ZEROS):
-        # After 1, before 2, 3 and 4 of a message and before 6.
+        # After 1, before 2 and 4 of a message and before 6.
         for width, refusal in ((224, 4), (256, 4), (384, 4), (512, 4), (160, 1)):
             what = "a key of %d bytes at %d" % (size, width)
             for room in (524, 0):
@@ -146,7 +153,7 @@ def check_keyed(tally):
             tally.equal(out.contents()[0], tag, "tag at the limit")
 
         # (bits, the byte after those of one bit more than the most, refusal)
-        for bits, last, refusal in ((most + 1, 0, 4), (most + 2, 0x80, 4), (most + 2, 0xC0, 3),
+        for bits, last, refusal in ((most + 1, 0, 4), (most + 2, 0x80, 4), (most + 2, 0xC0, 4),
                                     (LIMIT, 0, 4), (LIMIT + 1, 0, 4), (2 ** 32 + 1, 0, 4),
                                     (8 * (2 ** 29 + 1) + 1, 0, 2), (2 ** 64 - 1, 0, 2)):
             what = "%d bits with a key at %d" % (bits, width)
@@ -175,9 +182,10 @@ def check_tapes(tally):
     tape = start + PAGE - 3
     ctypes.memmove(tape, b"\x01\xe0\x00", 3)
     at = 3 + size - len(FULL)
-    part = b"\x03\xff" + bytes(32)
-    nothing = b"\x03\x00" + bytes(32)
-    for name, end in (("PART of 1 bit", b"\x03\x01\x80" + bytes(31)), ("FULL", FULL)):
+    for name, end, after in (("PART of 1 bit", b"\x03\x01\x80" + bytes(31), 0), ("FULL", FULL, 0),
+                             ("PART of 1 bit, ones after each count", b"\x03\x01" + b"\xff" * 32, 0xFF)):
+        part = b"\x03\xff" + bytes(31) + bytes([after & 1])
+        nothing = b"\x03\x00" + bytes([after]) * 32
         rest = part + nothing + end + b"\x04\x05"
         ctypes.memmove(tape + at, rest, len(rest))
         out = Output(28)

@@ -106,10 +106,10 @@ impl Hmac {
         Ok(keyed)
     }
 
-    /// Feeds the first `bits` bits of a piece; answers how many blocks were compressed.
+    /// Feeds the first `bits` bits of a piece, and ignores the others; answers how many blocks were
+    /// compressed.
     ///
-    /// Refused: [`Refusal::Count`], [`Refusal::Spare`], [`Refusal::Total`]. The keyed hash is then
-    /// unchanged.
+    /// Refused: [`Refusal::Count`], [`Refusal::Total`]. The keyed hash is then unchanged.
     pub fn feed(&mut self, piece: &[u8], bits: u64) -> Result<u64, Refusal> {
         let mut blocks = 0;
         // SAFETY: each pointer and length are those of one slice, and nothing overlaps the form.
@@ -221,10 +221,10 @@ impl io::Write for Hmac {
     }
 }
 
-/// The tag of the first `bits` bits of a message under a key.
+/// The tag of the first `bits` bits of a message under a key; the others are ignored.
 ///
 /// Refused: [`Refusal::Width`]; [`Refusal::Total`] of the key; [`Refusal::Count`],
-/// [`Refusal::Spare`], [`Refusal::Total`] of the message, which may have a block less than
+/// [`Refusal::Total`] of the message, which may have a block less than
 /// [`BITS_MAX`](crate::BITS_MAX) bits.
 ///
 /// ```
@@ -232,7 +232,7 @@ impl io::Write for Hmac {
 ///
 /// let tag = hmac(512, b"a key", &[0xff, 0x80], 9)?;
 /// assert_eq!(tag.as_bytes().len(), 64);
-/// assert_eq!(hmac(512, b"a key", &[0xff, 0xc0], 9), Err(Refusal::Spare));
+/// assert_eq!(hmac(512, b"a key", &[0xff, 0xc0], 9)?, tag);
 /// assert_eq!(hmac(160, b"a key", &[0xff, 0xc0], 9), Err(Refusal::Width));
 /// # Ok::<(), Refusal>(())
 /// ```

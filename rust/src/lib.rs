@@ -3,10 +3,11 @@
 //! The names are those of the C header: [`Hash::open`], [`Hash::feed`], [`Hash::take`], [`hash`],
 //! [`Hmac::open`], [`Hmac::feed`], [`Hmac::take`], [`Hmac::check`], [`hmac`], [`expand`], [`steps`],
 //! [`unsteps`], [`compare`], [`tape`], [`page_entry`]. A width is 224, 256, 384 or 512. A message is
-//! bytes and a count of bits; in a byte the first bit is the highest, and bits past the count in the
-//! last byte used have to be 0. Elsewhere an open hash is called a hashing context, to feed is to
-//! update, and to take is to finalize; here the hash stays open. A keyed seal is a message
-//! authentication code, its bytes are the tag, and to check a tag is to verify it.
+//! bytes and a count of bits; in a byte the first bit is the highest, and what is past the count, in
+//! the last byte used and in the bytes behind it, is ignored. Elsewhere an open hash is called a
+//! hashing context, to feed is to update, and to take is to finalize; here the hash stays open. A
+//! keyed seal is a message authentication code, its bytes are the tag, and to check a tag is to verify
+//! it.
 //!
 //! ```
 //! let digest = simd::hash(256, b"", 0)?;
@@ -168,6 +169,17 @@ impl fmt::Debug for Digest {
 /// # Ok::<(), simd::Refusal>(())
 /// ```
 ///
+/// What is past the count of a piece leaves no trace:
+///
+/// ```
+/// let mut hash = simd::Hash::open(256)?;
+/// let mut same = hash.clone();
+/// hash.feed(&[0b1010_0000], 3)?;
+/// same.feed(&[0b1011_0101, 0xff], 3)?;
+/// assert_eq!(same.store(), hash.store());
+/// # Ok::<(), simd::Refusal>(())
+/// ```
+///
 /// Stored and restored, it goes on as before:
 ///
 /// ```
@@ -235,10 +247,10 @@ impl Hash {
         })
     }
 
-    /// Feeds the first `bits` bits of a piece; answers how many blocks were compressed.
+    /// Feeds the first `bits` bits of a piece, and ignores the others; answers how many blocks were
+    /// compressed.
     ///
-    /// Refused: [`Refusal::Count`], [`Refusal::Spare`], [`Refusal::Total`]. The hash is then
-    /// unchanged.
+    /// Refused: [`Refusal::Count`], [`Refusal::Total`]. The hash is then unchanged.
     pub fn feed(&mut self, piece: &[u8], bits: u64) -> Result<u64, Refusal> {
         let mut blocks = 0;
         // SAFETY: each pointer and length are those of one slice, and nothing overlaps the form.
@@ -319,15 +331,15 @@ impl io::Write for Hash {
     }
 }
 
-/// The digest of the first `bits` bits of a message.
+/// The digest of the first `bits` bits of a message; the others are ignored.
 ///
-/// Refused: [`Refusal::Width`], [`Refusal::Count`], [`Refusal::Spare`], [`Refusal::Total`].
+/// Refused: [`Refusal::Width`], [`Refusal::Count`], [`Refusal::Total`].
 ///
 /// ```
 /// use simd::{hash, Refusal};
 ///
 /// assert_eq!(hash(512, &[0xff, 0x80], 9)?.as_ref().len(), 64);
-/// assert_eq!(hash(512, &[0xff, 0xc0], 9), Err(Refusal::Spare));
+/// assert_eq!(hash(512, &[0xff, 0xc0], 9)?, hash(512, &[0xff, 0x80], 9)?);
 /// assert_eq!(hash(512, &[0xff], 9), Err(Refusal::Count));
 /// assert_eq!(hash(160, &[], 0), Err(Refusal::Width));
 /// # Ok::<(), Refusal>(())
@@ -444,15 +456,17 @@ pub enum Verdict {
     Meet(u64),
 }
 
-/// Compares two messages, each bytes and a count of bits, under one width.
+/// Compares two messages, each bytes and a count of bits, under one width. What is past a count is
+/// ignored.
 ///
 /// Refused: [`Refusal::Width`]; then, for the first message and after it for the second,
-/// [`Refusal::Count`], [`Refusal::Spare`], [`Refusal::Total`].
+/// [`Refusal::Count`], [`Refusal::Total`].
 ///
 /// ```
 /// use simd::{compare, Verdict};
 ///
 /// assert_eq!(compare(256, b"record", 48, b"record!", 48)?, Verdict::Same);
+/// assert_eq!(compare(256, b"record", 43, b"recorg", 43)?, Verdict::Same);
 /// assert_eq!(compare(256, b"record", 48, b"record!", 56)?, Verdict::Apart);
 /// # Ok::<(), simd::Refusal>(())
 /// ```
@@ -487,7 +501,8 @@ pub fn compare(
 }
 
 /// Runs a tape of commands; digests are written to `out` straight after each other. Answers how
-/// many there are. A refusal tells the place and how many digests were written before it.
+/// many there are. A refusal tells the place and how many digests were written before it. The bits of
+/// a PART past its count are ignored.
 ///
 /// ```
 /// let mut out = [0; 32];

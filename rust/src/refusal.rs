@@ -11,7 +11,8 @@ pub enum Refusal {
     Width = 1,
     /// More bits are asked for than the bytes have.
     Count = 2,
-    /// A bit is set past the count: in the last byte used, or in the 32 bytes of a PART.
+    /// Retired: no call answers it since bits past the count are ignored. The name stays so that
+    /// callers compile.
     Spare = 3,
     /// The message would have more than [`BITS_MAX`](crate::BITS_MAX) bits; of a keyed hash, the key,
     /// or the message with one key block.
@@ -39,7 +40,7 @@ pub enum Refusal {
 }
 
 impl Refusal {
-    /// All of them, by number.
+    /// All of them, by number, with the retired one.
     pub const ALL: &'static [Refusal] = &[
         Refusal::Width,
         Refusal::Count,
@@ -76,7 +77,7 @@ impl fmt::Display for Refusal {
         f.write_str(match self {
             Refusal::Width => "the width is none of 224, 256, 384 and 512",
             Refusal::Count => "more bits than the bytes have",
-            Refusal::Spare => "a bit is set past the count",
+            Refusal::Spare => "retired: bits past the count are ignored",
             Refusal::Total => "more than 4294967295 bits in all",
             Refusal::Hash => "the open or keyed hash is none",
             Refusal::Output => "the output is too short",

@@ -1,5 +1,5 @@
-//! The wrapper against the digests of appendix A, the formula of keyed seals and the lines of a page,
-//! and its refusals.
+//! The wrapper against the digests of appendix A, the formula of keyed seals and the lines of a page;
+//! what is past a count; and its refusals.
 
 use std::fs;
 use std::io::Write;
@@ -138,12 +138,15 @@ fn refusals() {
 
     let mut open = Hash::open(224).unwrap();
     assert_eq!(open.feed(&[0xff], 9), Err(Refusal::Count));
-    assert_eq!(open.feed(&[0xff], 7), Err(Refusal::Spare));
     assert_eq!(open, Hash::open(224).unwrap());
+    let mut clean = open.clone();
+    assert_eq!(open.feed(&[0xff], 7), clean.feed(&[0xfe], 7));
+    assert_eq!(open, clean);
 
     assert_eq!(expand(256, false, &[0; 63]), Err(Refusal::Block));
     assert_eq!(steps(256, false, &[0; 64], &[0; 128]), Err(Refusal::Block));
-    assert_eq!(compare(256, &[0xff], 7, &[], 1), Err(Refusal::Spare));
+    assert_eq!(compare(256, &[0xff], 7, &[], 1), Err(Refusal::Count));
+    assert_eq!(compare(256, &[0xff], 7, &[0xfe], 7), Ok(Verdict::Same));
     assert_eq!(compare(256, &[0xff], 8, &[], 1), Err(Refusal::Count));
 }
 
@@ -290,7 +293,7 @@ fn writing_past_the_limit_with_the_key_block_is_an_error() {
 fn refusals_of_keyed_hashes() {
     assert_eq!(Hmac::open(255, b"").unwrap_err(), Refusal::Width);
     assert_eq!(hmac(255, b"", &[0xff], 7), Err(Refusal::Width));
-    assert_eq!(hmac(256, b"", &[0xff], 7), Err(Refusal::Spare));
+    assert_eq!(hmac(256, b"", &[0xff], 7), hmac(256, b"", &[0xfe], 7));
     assert_eq!(hmac(256, b"", &[0xff], 9), Err(Refusal::Count));
     let refused = |form: &[u8]| Hmac::restore(form).unwrap_err();
     assert_eq!(refused(&[]), Refusal::Form);
@@ -326,8 +329,178 @@ fn refusals_of_keyed_hashes() {
         assert_eq!(refused(&[inner, short.store()].concat()), Refusal::Hash);
 
         assert_eq!(keyed.feed(&[0xff], 9), Err(Refusal::Count));
-        assert_eq!(keyed.feed(&[0xff], 7), Err(Refusal::Spare));
         assert_eq!(keyed.store(), form);
+        let mut clean = keyed.clone();
+        assert_eq!(keyed.feed(&[0xff], 7), clean.feed(&[0xfe], 7));
+        assert_eq!(keyed.store(), clean.store());
+    }
+}
+
+const COUNTS: [u64; 11] = [0, 1, 7, 8, 9, 511, 512, 513, 1023, 1024, 1025];
+const TAILS: [u64; 4] = [0, 3, 8, 511];
+
+/// Bytes without a pattern.
+struct Bytes(u32);
+
+impl Bytes {
+    fn next(&mut self) -> u8 {
+        self.0 = self.0.wrapping_mul(1_664_525).wrapping_add(1_013_904_223);
+        (self.0 >> 24) as u8
+    }
+
+    /// A message with zeros after its last bit.
+    fn message(&mut self, bits: u64) -> Vec<u8> {
+        let data: Vec<u8> = (0..bits.div_ceil(8)).map(|_| self.next()).collect();
+        piece_of(&data, 0, bits)
+    }
+
+    /// The same message with other bits after its last one, and so many bytes behind its last byte.
+    fn soiled(&mut self, clean: &[u8], bits: u64, behind: usize) -> Vec<u8> {
+        let mut dirty = clean.to_vec();
+        if bits % 8 > 0 {
+            let past = 0xff >> (bits % 8);
+            *dirty.last_mut().unwrap() |= self.next() & past | 1;
+        }
+        dirty.extend((0..behind).map(|_| self.next() | 1));
+        dirty
+    }
+}
+
+/// The digests of appendix A, with ones and with other bits after the last one of the message.
+#[test]
+fn appendix_a_digests_with_bits_past_the_count() {
+    let mut bytes = Bytes(1);
+    for m in messages() {
+        for behind in [0, 1, 300] {
+            let mut ones = m.data.clone();
+            if m.bits % 8 > 0 {
+                *ones.last_mut().unwrap() |= 0xff >> (m.bits % 8);
+            }
+            ones.resize(ones.len() + behind, 0xff);
+            for dirty in [ones, bytes.soiled(&m.data, m.bits, behind)] {
+                assert_eq!(hash(m.width, &dirty, m.bits).unwrap().to_string(), m.digest);
+                let mut open = Hash::open(m.width).unwrap();
+                open.feed(&dirty, m.bits).unwrap();
+                assert_eq!(open.take().digest.to_string(), m.digest);
+                let tag = hmac(m.width, b"a key", &dirty, m.bits).unwrap();
+                assert_eq!(tag.to_vec(), formula(m.width, b"a key", &m.data, m.bits));
+            }
+        }
+    }
+}
+
+#[test]
+fn bits_past_the_count_leave_no_trace() {
+    let mut bytes = Bytes(2);
+    for width in WIDTHS {
+        let with_bytes = |count| [(count, 0), (count, 200)];
+        for (count, behind) in COUNTS.into_iter().flat_map(with_bytes) {
+            let clean = bytes.message(count);
+            let dirty = bytes.soiled(&clean, count, behind);
+            assert_eq!(hash(width, &dirty, count), hash(width, &clean, count));
+            assert_eq!(
+                hmac(width, b"a key", &dirty, count).unwrap().to_vec(),
+                formula(width, b"a key", &clean, count)
+            );
+            for tail in TAILS {
+                let front = bytes.message(tail);
+                let mut open = Hash::open(width).unwrap();
+                open.feed(&bytes.soiled(&front, tail, behind), tail)
+                    .unwrap();
+                let mut same = Hash::open(width).unwrap();
+                same.feed(&front, tail).unwrap();
+                assert_eq!(open, same);
+                assert_eq!(open.feed(&dirty, count), same.feed(&clean, count));
+                assert_eq!(open.store(), same.store());
+                assert_eq!(open.take(), same.take());
+
+                let mut keyed = Hmac::open(width, b"a key").unwrap();
+                keyed
+                    .feed(&bytes.soiled(&front, tail, behind), tail)
+                    .unwrap();
+                let mut same = Hmac::open(width, b"a key").unwrap();
+                same.feed(&front, tail).unwrap();
+                assert_eq!(keyed.feed(&dirty, count), same.feed(&clean, count));
+                assert_eq!(keyed.store(), same.store());
+                let tag = same.take().tag.to_vec();
+                assert_eq!(keyed.take().tag.to_vec(), tag);
+                assert!(keyed.check(&tag));
+                assert!(!keyed.check(&tag[1..]));
+            }
+        }
+    }
+}
+
+#[test]
+fn comparison_ignores_bits_past_the_counts() {
+    let mut bytes = Bytes(3);
+    for width in WIDTHS {
+        for count in COUNTS {
+            let clean = bytes.message(count);
+            for behind in [0, 1, 200] {
+                let a = bytes.soiled(&clean, count, behind);
+                let b = bytes.soiled(&clean, count, 200 - behind);
+                for (a, b) in [(&a, &clean), (&clean, &b), (&a, &b), (&b, &a)] {
+                    assert_eq!(compare(width, a, count, b, count), Ok(Verdict::Same));
+                }
+                let mut other = b.clone();
+                if count > 0 {
+                    other[(count as usize - 1) / 8] ^= 0x80 >> ((count - 1) % 8);
+                    for (a, b) in [(&a, &other), (&other, &a), (&clean, &other)] {
+                        assert_eq!(compare(width, a, count, b, count), Ok(Verdict::Apart));
+                    }
+                    let longer = compare(width, &b, count, &b, count - 1);
+                    assert_eq!(longer, Ok(Verdict::Apart));
+                }
+            }
+        }
+    }
+}
+
+/// PART of every count, with other bits in the rest of its 32 bytes.
+#[test]
+fn part_ignores_bits_past_the_count() {
+    let mut bytes = Bytes(4);
+    for width in WIDTHS {
+        for count in 0..=255 {
+            let clean = bytes.message(u64::from(count));
+            let dirty = bytes.soiled(&clean, u64::from(count), 32 - clean.len());
+            let [low, high] = width.to_le_bytes();
+            let data = [&[1, low, high, 3, count][..], &dirty, &[4, 5]].concat();
+            let mut out = vec![0xaa; usize::from(width / 8) + 1];
+            assert_eq!(tape(&data, &mut out), Ok(1));
+            assert_eq!(out.pop(), Some(0xaa));
+            let digest = hash(width, &clean, u64::from(count)).unwrap();
+            assert_eq!(out, digest.as_bytes());
+        }
+    }
+}
+
+/// Each bit past the tail of a stored form, also in either half of a keyed one.
+#[test]
+fn bits_past_a_tail_are_still_refused() {
+    for width in WIDTHS {
+        for tail in TAILS {
+            let mut open = Hash::open(width).unwrap();
+            open.feed(&[0xa5; 64], tail).unwrap();
+            let mut keyed = Hmac::open(width, b"a key").unwrap();
+            keyed.feed(&[0xa5; 64], tail).unwrap();
+            let (form, both) = (open.store(), keyed.store());
+            let (size, half) = ((form.len() - 6) / 2, form.len());
+            assert!(Hash::restore(form).is_ok() && Hmac::restore(both).is_ok());
+            for place in tail as usize..8 * size {
+                let (at, bit) = (6 + size + place / 8, 0x80 >> (place % 8));
+                let mut damaged = form.to_vec();
+                damaged[at] |= bit;
+                assert_eq!(Hash::restore(&damaged).unwrap_err(), Refusal::Tail);
+                let mut damaged = both.to_vec();
+                damaged[at] |= bit;
+                assert_eq!(Hmac::restore(&damaged).unwrap_err(), Refusal::Tail);
+                let mut damaged = both.to_vec();
+                damaged[half + at] |= bit;
+                assert_eq!(Hmac::restore(&damaged).unwrap_err(), Refusal::Tail);
+            }
+        }
     }
 }
 
@@ -423,6 +596,8 @@ fn refusals_of_entries() {
 #[test]
 fn refusals_have_numbers_and_words() {
     assert_eq!(Refusal::Width.number(), 1);
+    assert_eq!(Refusal::Spare.number(), 3);
+    assert!(Refusal::Spare.to_string().starts_with("retired: "));
     assert_eq!(Refusal::Hash.number(), 5);
     assert_eq!(Refusal::Output.number(), 6);
     assert_eq!(Refusal::Order.number(), 12);

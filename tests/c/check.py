@@ -238,6 +238,7 @@ def check_texts():
         return
     *texts, joined, version = run([built])[1].splitlines()
     tally.equal(len(set(texts[:15])), 15, "a text for each number")
+    tally.equal([k for k in range(15) if texts[k].startswith("retired: ")], [3], "the retired number")
     tally.equal(set(texts[15:]), {"no such refusal"}, "no text for other numbers")
     tally.equal(version, joined, "SIMD_VERSION and its parts")
     cargo = re.search(r'^version = "(.*)"', read("rust", "Cargo.toml"), re.M).group(1)

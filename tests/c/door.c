@@ -1,5 +1,6 @@
 /* Use of include/simd.h from C: hash, feed in pieces, store, restore, seal under
-   a key, compare, run a tape, print a page.  Prints how many answers it checked; the
+   a key, compare, run a tape, all of these with bits past the count, print a page.
+   Prints how many answers it checked; the
    exit status is 0 where all were right.  The digests are those of appendix A, the
    tags those of tests/reference/hmac_ref.py, the pages those of printf. */
 
@@ -71,7 +72,7 @@ static void check_hash(const struct vector *v)
 /* Pieces of 13 bits, the hash kept elsewhere between them. */
 static void check_pieces(const struct vector *v)
 {
-    const uint8_t ones[2] = {0xff, 0xf8};
+    const uint8_t ones[2] = {0xff, 0xf8}, clean[2] = {0xff, 0xf0};
     uint8_t form[SIMD_FORM_LARGE], stored[SIMD_FORM_LARGE], out[SIMD_DIGEST_MAX];
     size_t size = SIMD_FORM(v->width);
     uint64_t blocks, total = 0, left = v->ones;
@@ -93,18 +94,22 @@ static void check_pieces(const struct vector *v)
           "take");
     check(total + blocks == 3, "compressions");
     memcpy(stored, form, size);
-    check(simd_feed(form, size, ones, sizeof ones, 12, &blocks) == SIMD_REFUSED_SPARE
-              && simd_feed(form, size, ones, sizeof ones, 17, &blocks) == SIMD_REFUSED_COUNT
+    check(simd_feed(form, size, ones, sizeof ones, 17, &blocks) == SIMD_REFUSED_COUNT
               && simd_feed(form, size - 1, ones, sizeof ones, 13, &blocks) == SIMD_REFUSED_FORM
               && memcmp(form, stored, size) == 0,
           "refusals of feed");
+    /* A bit past the count leaves the form that a 0 leaves. */
+    check(simd_feed(form, size, ones, sizeof ones, 12, &blocks) == SIMD_ACCEPTED
+              && simd_feed(stored, size, clean, sizeof clean, 12, &blocks) == SIMD_ACCEPTED
+              && memcmp(form, stored, size) == 0,
+          "a bit past the count of a piece");
 }
 
 /* A key that is hashed first; pieces of 13 bits, the form kept elsewhere between
    them. */
 static void check_keyed(const struct vector *v)
 {
-    const uint8_t ones[2] = {0xff, 0xf8}, one = 0x80, nothing = 0;
+    const uint8_t ones[2] = {0xff, 0xf8}, clean[2] = {0xff, 0xf0}, one = 0x80, nothing = 0;
     uint8_t key[SIMD_BLOCK_LARGE + 1], message[256];
     uint8_t form[SIMD_HMAC_FORM_LARGE], stored[SIMD_HMAC_FORM_LARGE], tag[SIMD_DIGEST_MAX + 1];
     size_t key_len = SIMD_BLOCK(v->width) + 1, size = SIMD_HMAC_FORM(v->width);
@@ -171,14 +176,17 @@ static void check_keyed(const struct vector *v)
               && blocks == 7,
           "halves exchanged");
     memcpy(stored, form, size);
-    check(simd_hmac_feed(form, size, ones, sizeof ones, 12, &blocks) == SIMD_REFUSED_SPARE
-              && simd_hmac_feed(form, size, ones, sizeof ones, 17, &blocks) == SIMD_REFUSED_COUNT
+    check(simd_hmac_feed(form, size, ones, sizeof ones, 17, &blocks) == SIMD_REFUSED_COUNT
               && simd_hmac_feed(form, size - 1, ones, sizeof ones, 13, &blocks) == SIMD_REFUSED_FORM
               && simd_hmac_take(form, size, tag, tag_len - 1, &blocks) == SIMD_REFUSED_OUTPUT
               && simd_hmac_open(v->width, key, key_len, form, size - 1) == SIMD_REFUSED_OUTPUT
               && simd_hmac_open(v->width + 1, key, key_len, form, size) == SIMD_REFUSED_WIDTH
               && blocks == 7 && memcmp(form, stored, size) == 0,
           "refusals under a key");
+    check(simd_hmac_feed(form, size, ones, sizeof ones, 12, &blocks) == SIMD_ACCEPTED
+              && simd_hmac_feed(stored, size, clean, sizeof clean, 12, &blocks) == SIMD_ACCEPTED
+              && memcmp(form, stored, size) == 0,
+          "a bit past the count of a piece under a key");
 }
 
 static void check_steps(const struct vector *v)
@@ -238,6 +246,170 @@ static void check_tape(const struct vector *v)
     check(simd_tape(tape, sizeof tape - 1, out, sizeof out, &count, &place) == SIMD_REFUSED_END
               && count == 1 && place == 37,
           "tape without STOP");
+}
+
+static uint8_t next_byte(void)
+{
+    static uint32_t seed = 3;
+    seed = seed * UINT32_C(1664525) + UINT32_C(1013904223);
+    return (uint8_t)(seed >> 24);
+}
+
+/* Bytes that begin with some bits of a message and go on with other bits, at least
+   one of them set where a byte has some over. */
+static void soil(uint8_t *dirty, size_t len, const uint8_t *message, uint64_t bits)
+{
+    size_t k, used = (size_t)(bits / 8);
+    for (k = 0; k < len; k++)
+        dirty[k] = k < used ? message[k] : next_byte();
+    if (bits % 8) {
+        uint8_t mask = (uint8_t)(0xff >> bits % 8);
+        dirty[used] = (uint8_t)((message[used] & ~mask) | (next_byte() & mask) | 1);
+    }
+}
+
+static const uint64_t COUNTS[] = {0, 1, 7, 8, 9, 511, 512, 513, 1023, 1024, 1025};
+static const uint64_t TAILS[] = {0, 3, 8, 511};
+
+enum { ROOM = 200, KEY = 5 };
+
+/* Every call with bits past the count has the answer of the same bits with zeros
+   after them; 700 or 1,079 ones with ones after them have the digest and tag of
+   those alone. */
+static void check_rubbish(const struct vector *v)
+{
+    static const uint8_t key[KEY] = {'g', 'r', 'o', 'u', 'p'};
+    uint8_t clean[ROOM], dirty[ROOM], other[ROOM], long_key[SIMD_BLOCK_LARGE + 1];
+    uint8_t out[2][SIMD_DIGEST_MAX], tag[2][SIMD_DIGEST_MAX];
+    uint8_t form[2][SIMD_FORM_LARGE], keyed[2][SIMD_HMAC_FORM_LARGE];
+    size_t size = SIMD_FORM(v->width), keyed_size = SIMD_HMAC_FORM(v->width), n, t;
+    size_t digest_len = SIMD_DIGEST(v->width), key_len = SIMD_BLOCK(v->width) + 1;
+    uint64_t blocks[2], verdict, block, right;
+    for (n = 0; n < sizeof long_key; n++)
+        long_key[n] = (uint8_t)n;
+    memset(dirty, 0xff, sizeof dirty);
+    check(simd_hash(v->width, dirty, sizeof dirty, v->ones, out[0], digest_len) == SIMD_ACCEPTED
+              && is_hex(out[0], digest_len, v->ones_digest),
+          "ones after the last bit of a message");
+    check(simd_hmac(v->width, long_key, key_len, dirty, sizeof dirty, v->ones, tag[0], digest_len)
+                  == SIMD_ACCEPTED
+              && is_hex(tag[0], digest_len, v->ones_tag),
+          "ones after the last bit of a message under a key");
+
+    for (n = 0; n < sizeof COUNTS / sizeof *COUNTS; n++) {
+        uint64_t bits = COUNTS[n];
+        size_t used = (size_t)((bits + 7) / 8);
+        memset(clean, 0, sizeof clean);
+        for (t = 0; t < used; t++)
+            clean[t] = next_byte();
+        if (bits % 8)
+            clean[used - 1] &= (uint8_t)(0xff00 >> bits % 8);
+        soil(dirty, sizeof dirty, clean, bits);
+        soil(other, sizeof other, clean, bits);
+        check(simd_hash(v->width, clean, used, bits, out[0], digest_len) == SIMD_ACCEPTED
+                  && simd_hash(v->width, dirty, sizeof dirty, bits, out[1], digest_len)
+                         == SIMD_ACCEPTED
+                  && memcmp(out[0], out[1], digest_len) == 0,
+              "a digest with bits past the count");
+        check(simd_hmac(v->width, key, KEY, clean, used, bits, tag[0], digest_len) == SIMD_ACCEPTED
+                  && simd_hmac(v->width, key, KEY, dirty, sizeof dirty, bits, tag[1], digest_len)
+                         == SIMD_ACCEPTED
+                  && memcmp(tag[0], tag[1], digest_len) == 0,
+              "a tag with bits past the count");
+        check(simd_compare(v->width, dirty, sizeof dirty, bits, clean, used, bits, &verdict, &block)
+                      == SIMD_ACCEPTED
+                  && verdict == SIMD_SAME && block == 0,
+              "bits past the first count");
+        check(simd_compare(v->width, clean, used, bits, dirty, sizeof dirty, bits, &verdict, &block)
+                      == SIMD_ACCEPTED
+                  && verdict == SIMD_SAME && block == 0,
+              "bits past the second count");
+        check(simd_compare(v->width, dirty, sizeof dirty, bits, other, sizeof other, bits, &verdict,
+                           &block)
+                      == SIMD_ACCEPTED
+                  && verdict == SIMD_SAME && block == 0,
+              "bits past both counts");
+        if (bits > 0) {
+            other[(bits - 1) / 8] ^= (uint8_t)(0x80 >> (bits - 1) % 8);
+            check(simd_compare(v->width, dirty, sizeof dirty, bits, other, sizeof other, bits,
+                               &verdict, &block)
+                          == SIMD_ACCEPTED
+                      && verdict == SIMD_APART && block == 0,
+                  "the last bit differs");
+        }
+        for (t = 0; t < sizeof TAILS / sizeof *TAILS; t++) {
+            check(simd_open(v->width, form[0], size) == SIMD_ACCEPTED
+                      && simd_feed(form[0], size, other, sizeof other, TAILS[t], &blocks[0])
+                             == SIMD_ACCEPTED
+                      && simd_hmac_open(v->width, key, KEY, keyed[0], keyed_size) == SIMD_ACCEPTED
+                      && simd_hmac_feed(keyed[0], keyed_size, other, sizeof other, TAILS[t],
+                                        &blocks[0])
+                             == SIMD_ACCEPTED,
+                  "a tail");
+            memcpy(form[1], form[0], size);
+            memcpy(keyed[1], keyed[0], keyed_size);
+            check(simd_feed(form[0], size, clean, used, bits, &blocks[0]) == SIMD_ACCEPTED
+                      && simd_feed(form[1], size, dirty, sizeof dirty, bits, &blocks[1])
+                             == SIMD_ACCEPTED
+                      && blocks[0] == blocks[1] && memcmp(form[0], form[1], size) == 0,
+                  "a form after bits past the count");
+            check(simd_hmac_feed(keyed[0], keyed_size, clean, used, bits, &blocks[0])
+                          == SIMD_ACCEPTED
+                      && simd_hmac_feed(keyed[1], keyed_size, dirty, sizeof dirty, bits, &blocks[1])
+                             == SIMD_ACCEPTED
+                      && blocks[0] == blocks[1] && memcmp(keyed[0], keyed[1], keyed_size) == 0,
+                  "a keyed form after bits past the count");
+            right = 7;
+            check(simd_hmac_take(keyed[0], keyed_size, tag[0], digest_len, &blocks[0])
+                          == SIMD_ACCEPTED
+                      && simd_hmac_check(keyed[1], keyed_size, tag[0], digest_len, &right)
+                             == SIMD_ACCEPTED
+                      && right == 1,
+                  "a tag of bits past the count");
+        }
+    }
+
+    /* In a stored form a bit past the tail is refused as before. */
+    form[0][size - 1] |= 1;
+    keyed[0][keyed_size - 1] |= 1;
+    check(simd_take(form[0], size, out[0], digest_len, &blocks[0]) == SIMD_REFUSED_TAIL
+              && simd_feed(form[0], size, dirty, sizeof dirty, 9, &blocks[0]) == SIMD_REFUSED_TAIL
+              && simd_hmac_take(keyed[0], keyed_size, tag[0], digest_len, &blocks[0])
+                     == SIMD_REFUSED_TAIL
+              && simd_hmac_feed(keyed[0], keyed_size, dirty, sizeof dirty, 9, &blocks[0])
+                     == SIMD_REFUSED_TAIL
+              && simd_hmac_check(keyed[0], keyed_size, tag[0], digest_len, &right)
+                     == SIMD_REFUSED_TAIL,
+          "a bit past a tail");
+}
+
+/* PART of every count, with other bits in the rest of its 32 bytes. */
+static void check_parts(const struct vector *v)
+{
+    uint8_t tape[3 + 34 + 2] = {1}, part[32], out[2][SIMD_DIGEST_MAX];
+    size_t digest_len = SIMD_DIGEST(v->width), k;
+    uint64_t count, place = 99;
+    unsigned bits;
+    tape[1] = (uint8_t)v->width;
+    tape[2] = (uint8_t)(v->width >> 8);
+    tape[3] = 3;
+    tape[37] = 4;
+    tape[38] = 5;
+    for (bits = 0; bits < 256; bits++) {
+        memset(part, 0, sizeof part);
+        for (k = 0; k < (bits + 7) / 8; k++)
+            part[k] = next_byte();
+        if (bits % 8)
+            part[bits / 8] &= (uint8_t)(0xff00 >> bits % 8);
+        tape[4] = (uint8_t)bits;
+        soil(tape + 5, sizeof part, part, bits);
+        check(simd_tape(tape, sizeof tape, out[0], digest_len, &count, &place) == SIMD_ACCEPTED
+                  && count == 1 && place == 99
+                  && simd_hash(v->width, part, sizeof part, bits, out[1], digest_len)
+                         == SIMD_ACCEPTED
+                  && memcmp(out[0], out[1], digest_len) == 0,
+              "PART with bits past the count");
+    }
 }
 
 enum { ENTRIES = 9, GUARD = 8 };
@@ -308,6 +480,8 @@ int main(void)
         check_steps(&VECTORS[k]);
         check_compare(&VECTORS[k]);
         check_tape(&VECTORS[k]);
+        check_rubbish(&VECTORS[k]);
+        check_parts(&VECTORS[k]);
         check_page(&VECTORS[k]);
     }
     printf("c: %u compared, %u differ\n", compared, differ);

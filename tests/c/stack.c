@@ -173,22 +173,20 @@ static void measure(int which)
     bound->accepted += answer == SIMD_ACCEPTED;
 }
 
-/* Some bits of a, with zeros after them; b is the same but for a bit. */
+/* Some bits of a, with others after them; b is the same but for a bit. */
 static void message(uint64_t count, size_t place)
 {
     size_t k;
     for (k = 0; k < LONG; k++)
         a[k] = (uint8_t)(167 * k + 90);
-    if (count % 8)
-        a[count / 8] &= (uint8_t)(0xff00 >> count % 8);
     memcpy(b, a, sizeof b);
     if (place < count / 8)
         b[place] ^= 1;
     bits = other_bits = count;
 }
 
-/* A tape in b, with every command; its pieces fill more than one block and leave
-   a tail that is no whole byte. */
+/* A tape in b, with every command; its pieces fill more than one block, leave a
+   tail that is no whole byte, and have bits past their count. */
 static void tape(void)
 {
     size_t at = 0;
@@ -202,8 +200,7 @@ static void tape(void)
         at += 32;
         b[at++] = 3;
         b[at++] = 203;
-        memset(b + at, 0, 32);
-        memset(b + at, 0xc3, 25);
+        memset(b + at, 0xc3, 32);
         at += 32;
     }
     b[at++] = 4;
@@ -273,7 +270,6 @@ int main(void)
             message(COUNTS[c], COUNTS[c] / 8 - 1);
             measure(COMPARE);
             other_bits /= 2;
-            other_bits -= other_bits % 8;
             measure(COMPARE);
             for (t = 0; t < sizeof TAILS / sizeof *TAILS; t++) {
                 measure(OPEN);

@@ -1,4 +1,5 @@
-"""The calls of include/simd.h over the reference, written from the scope.
+"""The calls of include/simd.h over the reference, written from the scope and
+from the change requests: what is past the count of a piece or message is ignored.
 
 Each function takes the same arguments as the one of that name in
 tests/product.py and returns the same: the refusal, then the contents after
@@ -23,8 +24,6 @@ def width_refusal(width):
 def piece_refusal(data, bits, before=0):
     if bits > 8 * len(data):
         return 2
-    if bits % 8 and data[bits // 8] % 2 ** (8 - bits % 8):
-        return 3
     return 4 if before + bits > BITS_MAX else 0
 
 

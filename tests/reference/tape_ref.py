@@ -1,4 +1,5 @@
-"""The tape of commands and the listing of `seal`, written from the scope.
+"""The tape of commands and the listing of `seal`, written from the scope and from
+the change requests: what is past the count of a PART is ignored.
 
     read(tape, at)   the command at a place and the next place, or Refused
     run(tape, room)  its digests, the refusal and its place
@@ -71,8 +72,6 @@ def run(tape, room=None):
                 width, message = None, None
             else:
                 count, data = (256, rest) if command == FULL else (rest[0], rest[1:])
-                if "1" in bit_string(data, 256)[count:]:
-                    raise Refused(3, at)
                 if sum(map(len, message)) + count > BITS_MAX:
                     raise Refused(4, at)
                 message.append(bit_string(data, count))

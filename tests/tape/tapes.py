@@ -65,7 +65,8 @@ def record(rng, longest):
             commands.append(full(rng.randbytes(32)))
         else:
             count = rng.choice((0, 1, 255, rng.randrange(256)))
-            commands.append(part(count, message(rng, count).ljust(32, b"\0")))
+            clean = message(rng, count).ljust(32, b"\0")
+            commands.append(part(count, rng.choice((clean, rng.randbytes(32)))))
     return commands + [TAKE]
 
 
@@ -93,7 +94,7 @@ def damaged(rng, commands):
         commands[at:at] = [commands[rng.randrange(len(commands))]]
     elif kind == 2:                      # a width changed
         commands[at:at] = [opening(rng.choice((0, 1, 255, 257, 511, rng.randrange(65536))))]
-    elif kind == 3:                      # a bit set past the count, perhaps
+    elif kind == 3:                      # a bit set, perhaps past the count, where it is ignored
         count, data = rng.randrange(256), bytearray(32)
         data[rng.randrange(32)] = 1 << rng.randrange(8)
         commands[at:at] = [part(count, bytes(data))]

@@ -1,4 +1,5 @@
--- Laws of the bits of a piece behind those of a tail, byte by byte.
+-- Laws of the bits of a piece behind those of a tail, byte by byte. All bits of the piece's bytes are put there; the blocks compressed are those
+-- that its first `count` bits make full, so that what stands past these is left in the tail alone, where `advance` makes it 0.
 use mathlib.Core.Bool.{false}
 use mathlib.Core.List.{List, _++_}
 use mathlib.Core.Path.{_≡_, refl, sym, ap, _∙_}
@@ -12,7 +13,7 @@ use lib.ListN.{length, getD, take, drop, length-append, length-take, length-drop
 use lib.Pow.{pow-pos, pow-add, shl-shr}
 use lib.Seq.{getD-append-add, getD-take}
 use Rattle.simd.specs.Basic.{Family, small, large, familyOf, blockBytes, blockBits, stateWords, table}
-use Rattle.simd.specs.Message.{bitsOf, byteOf, block}
+use Rattle.simd.specs.Message.{bitsOf, byteOf, message, block}
 use Rattle.simd.specs.Steps.{compression}
 use Rattle.simd.specs.Hash.{chain}
 use Rattle.iteration.specs.Blocks.{absorbed}
@@ -22,8 +23,9 @@ use Rattle.laws.proofs.Chain.{byte-drop}
 use Rattle.bits.specs.Zero.{padded}
 use Rattle.bits.specs.Shift.{carryAt, shifted, withShifted}
 use Rattle.shifted_blocks.specs.Source.{Completing}
-use Rattle.advance.specs.Joined.{Ready, joinedBits}
+use Rattle.advance.specs.Joined.{Ready, joinedBits, Joins}
 use Rattle.bits.proofs.Zeros.{padded-take, byte-clear}
+use Rattle.bits.proofs.Stream.{bits-end}
 use Rattle.tail.proofs.Absorbing.{absorbed-chain}
 use Rattle.shifted_blocks.proofs.Running.{shifted-bytes, shifted-drop}
 
@@ -74,7 +76,7 @@ pub block-small : (f : Family) → blockBits f ≤ 1024
 block-small small = omega arith
 block-small large = omega arith
 
--- What `advance` knows of its arguments, of the scale and of the number of full blocks.
+-- What `join` knows of its arguments, of the scale and of the number of full blocks.
 pub record Joining (width used : ℕ) (state tail src : List ℕ) (count scale blocks : ℕ) : Type 0 where
   pub ready : Ready width used state tail src count
   pub tail-fits : (i : ℕ) → getD tail i 0 < 256
@@ -87,7 +89,7 @@ module _ {width used : ℕ} {state tail src : List ℕ} {count scale blocks : �
   f = familyOf width
 
   abbrev joined : List ℕ
-  joined = joinedBits used tail src count
+  joined = joinedBits used tail src (8 * length src)
 
   -- The scale, the bytes that the tail has whole, and the byte behind them.
   abbrev power : ℕ
@@ -102,24 +104,24 @@ module _ {width used : ℕ} {state tail src : List ℕ} {count scale blocks : �
   tail-length : length (take used (bitsOf tail)) ≡ used
   tail-length = omega (arith, length-take used (bitsOf tail), length-bitsOf tail, x .ready .below, x .ready .bytes, block-small f)
 
-  src-length : length (take count (bitsOf src)) ≡ count
-  src-length = omega (arith, length-take count (bitsOf src), length-bitsOf src, x .ready .source)
+  src-length : length (take (8 * length src) (bitsOf src)) ≡ 8 * length src
+  src-length = omega (arith, length-take (8 * length src) (bitsOf src), length-bitsOf src)
 
   tail-byte : (j : ℕ) → byteOf (take used (bitsOf tail)) j ≡ getD tail j 0
   tail-byte j = byte-clear used tail j (x .ready .tail-clear) (x .tail-fits j)
 
-  src-byte : (i : ℕ) → byteOf (take count (bitsOf src)) i ≡ getD src i 0
-  src-byte i = byte-clear count src i (x .ready .source-clear) (x .src-fits i)
+  src-byte : (i : ℕ) → byteOf (take (8 * length src) (bitsOf src)) i ≡ getD src i 0
+  src-byte i = byte-clear (8 * length src) src i (bits-end (8 * length src) src (omega arith)) (x .src-fits i)
 
-  pub joined-size : length joined ≡ used + count
-  unfolding joinedBits
-  joined-size = omega (arith, length-append (take used (bitsOf tail)) (take count (bitsOf src)), tail-length, src-length)
+  pub joined-size : length joined ≡ used + 8 * length src
+  unfolding joinedBits message
+  joined-size = omega (arith, length-append (take used (bitsOf tail)) (take (8 * length src) (bitsOf src)), tail-length, src-length)
 
   joined-bits : Bits joined
-  unfolding joinedBits
+  unfolding joinedBits message
   joined-bits =
-      bits-append (take used (bitsOf tail)) (take count (bitsOf src)) (bits-take used (bitsOf tail) (bits-bitsOf tail))
-      (bits-take count (bitsOf src) (bits-bitsOf src))
+      bits-append (take used (bitsOf tail)) (take (8 * length src) (bitsOf src)) (bits-take used (bitsOf tail) (bits-bitsOf tail))
+      (bits-take (8 * length src) (bitsOf src) (bits-bitsOf src))
 
   pub few : blocks < 2 ^ 32
   few = few-blocks f (used + count) blocks (x .counted) (omega (arith, x .ready .below, x .ready .short, block-small f))
@@ -135,20 +137,20 @@ module _ {width used : ℕ} {state tail src : List ℕ} {count scale blocks : �
 
   -- Bytes that the tail has whole.
   pub byte-before : (j : ℕ) → j < q → byteOf joined j ≡ getD tail j 0
-  unfolding joinedBits
+  unfolding joinedBits message
   byte-before j before =
-      byte-append (take used (bitsOf tail)) (take count (bitsOf src)) j (omega (arith, tail-length)) ∙ tail-byte j
+      byte-append (take used (bitsOf tail)) (take (8 * length src) (bitsOf src)) j (omega (arith, tail-length)) ∙ tail-byte j
 
   -- Bytes from the tail's last on.
   stream-from : (i : ℕ) → (carryAt power first src i + getD src i 0 * power / 256) ≡ byteOf joined (q + i)
-  unfolding carryAt joinedBits
+  unfolding carryAt joinedBits message
   stream-from zero =
       let o = used % 8 in
       let e = 8 - o in
       let eight : o + e ≡ 8 = omega arith in
       let t = take used (bitsOf tail) in
-      let m = take count (bitsOf src) in
-      let seam = byte-seam t m q o e (tail-length ∙ omega arith) eight (bits-take count (bitsOf src) (bits-bitsOf src)) in
+      let m = take (8 * length src) (bitsOf src) in
+      let seam = byte-seam t m q o e (tail-length ∙ omega arith) eight (bits-take (8 * length src) (bitsOf src) (bits-bitsOf src)) in
       let bytes : byteOf t q + byteOf m 0 / 2 ^ o ≡ first + getD src 0 0 / 2 ^ o = λ i. tail-byte q i + src-byte 0 i / 2 ^ o in
       rw (scaled-high (getD src 0 0) o e eight, add-zero) (sym (seam ∙ bytes))
   stream-from (suc i) =
@@ -156,8 +158,8 @@ module _ {width used : ℕ} {state tail src : List ℕ} {count scale blocks : �
       let e = 8 - o in
       let eight : o + e ≡ 8 = omega arith in
       let t = take used (bitsOf tail) in
-      let m = take count (bitsOf src) in
-      let behind = byte-behind t m q o e (tail-length ∙ omega arith) eight (bits-take count (bitsOf src) (bits-bitsOf src)) i in
+      let m = take (8 * length src) (bitsOf src) in
+      let behind = byte-behind t m q o e (tail-length ∙ omega arith) eight (bits-take (8 * length src) (bitsOf src) (bits-bitsOf src)) i in
       let bytes : byteOf m i % 2 ^ o * 2 ^ e + byteOf m (suc i) / 2 ^ o ≡ getD src i 0 % 2 ^ o * 2 ^ e + getD src (suc i) 0 / 2 ^ o =
       λ k. src-byte i k % 2 ^ o * 2 ^ e + src-byte (suc i) k / 2 ^ o in
       rw (scaled-high (getD src (suc i) 0) o e eight, scaled-low (getD src i 0) o e eight) (sym (behind ∙ bytes))
@@ -235,24 +237,23 @@ module _ {width used : ℕ} {state tail src : List ℕ} {count scale blocks : �
 
   -- The three ways on.
   abbrev goal : List ℕ → List ℕ → ℕ → Type 0
-  goal state′ tail′ n =
-      (state′ ≡ padded 32 (chain f (take (stateWords f) state) joined ((used + count) / blockBits f)))
-      × (tail′ ≡ table 128 (byteOf (drop (blockBits f * ((used + count) / blockBits f)) joined)))
-      × (n ≡ (used + count) / blockBits f)
+  goal state′ tail′ n = Joins width used state tail src (8 * length src) ((used + count) / blockBits f) state′ tail′ n
 
   pub none-complete : blocks ≡ 0 → (tail′ : List ℕ)
       → tail′ ≡ table (length tail) (withShifted tail q scale first src) → goal state tail′ 0
   unfolding chain
   none-complete none tail′ wrote =
       let zeros : 0 ≡ (used + count) / blockBits f = sym none ∙ x .counted in
-      let start : 0 ≡ blockBits f * ((used + count) / blockBits f) = sym (mul-zero (blockBits f)) ∙ ap (λ (n : ℕ). blockBits f * n) zeros in (
-        sym state-kept ∙ ap (λ (n : ℕ). padded 32 (chain f (take (stateWords f) state) joined n)) zeros,
-        wrote
+      let start : 0 ≡ blockBits f * ((used + count) / blockBits f) = sym (mul-zero (blockBits f)) ∙ ap (λ (n : ℕ). blockBits f * n) zeros in
+      record {
+        compressed = sym state-kept ∙ ap (λ (n : ℕ). padded 32 (chain f (take (stateWords f) state) joined n)) zeros;
+        left =
+            wrote
             ∙ (λ i. table (x .ready .bytes i) (withShifted tail q (x .scaled i) first src))
             ∙ tail-withShifted
-            ∙ ap (λ (n : ℕ). table 128 (byteOf (drop n joined))) start,
-        zeros,
-      )
+            ∙ ap (λ (n : ℕ). table 128 (byteOf (drop n joined))) start;
+        number = zeros;
+      }
 
   -- The tail that is left after all full blocks.
   left-over : (a : ℕ) → q + a ≡ blockBytes f * blocks → (tail′ : List ℕ)
@@ -272,16 +273,19 @@ module _ {width used : ℕ} {state tail src : List ℕ} {count scale blocks : �
   from-start none whole full state′ tail′ stated wrote =
       let w = take (stateWords f) state in
       let divided : whole / blockBytes f ≡ blocks = ap (λ (n : ℕ). n / blockBytes f) full ∙ blocks-back f blocks in
-      let state-on = rest-state 0 0 (rw (none, mul-zero) refl) w blocks in (
-        stated
+      let state-on = rest-state 0 0 (rw (none, mul-zero) refl) w blocks in
+      record {
+        compressed =
+            stated
             ∙ (λ i. padded 32 (absorbed f w (table (full i) (shifted (x .scaled i) first src)) (divided i)))
             ∙ ap (padded 32) state-on
-            ∙ ap (λ (n : ℕ). padded 32 (chain f w joined n)) (zero-add blocks ∙ x .counted),
-        left-over whole (omega arith) tail′
+            ∙ ap (λ (n : ℕ). padded 32 (chain f w joined n)) (zero-add blocks ∙ x .counted);
+        left =
+            left-over whole (omega arith) tail′
             (wrote
-            ∙ λ i. table (x .ready .bytes i) (withShifted (table (x .ready .bytes i) (λ _. 0)) 0 scale (carryAt scale first src whole) (drop whole src))),
-        x .counted,
-      )
+            ∙ λ i. table (x .ready .bytes i) (withShifted (table (x .ready .bytes i) (λ _. 0)) 0 scale (carryAt scale first src whole) (drop whole src)));
+        number = x .counted;
+      }
 
   first-block : take q tail ++ table (blockBytes f - q) (shifted power first src)
       ≡ block f joined 0
@@ -336,8 +340,10 @@ module _ {width used : ℕ} {state tail src : List ℕ} {count scale blocks : �
       let divided : (whole - size) / blockBytes f ≡ blocks - 1 = ap (λ (n : ℕ). n / blockBytes f) rest ∙ blocks-back f (blocks - 1) in
       let there : q + (blockBytes f - q) ≡ blockBytes f * 1 = omega arith in
       let state-on = rest-state 1 (blockBytes f - q) there w (blocks - 1) in
-      let total : 1 + (blocks - 1) ≡ blocks = omega arith in (
-        stated
+      let total : 1 + (blocks - 1) ≡ blocks = omega arith in
+      record {
+        compressed =
+            stated
             ∙ (λ i. padded 32 (absorbed f (compression f false w (take q tail ++ table (one i - q) (shifted (x .scaled i) first src)))
             (table (rest i) (shifted (x .scaled i) (carryAt (x .scaled i) first src (one i - q)) (drop (one i - q) src))) (divided i)))
             ∙ ap (λ (l : List ℕ). padded 32 (absorbed f (compression f false w l)
@@ -345,10 +351,10 @@ module _ {width used : ℕ} {state tail src : List ℕ} {count scale blocks : �
             (blocks - 1)))
             first-block
             ∙ ap (padded 32) state-on
-            ∙ ap (λ (n : ℕ). padded 32 (chain f w joined n)) (total ∙ x .counted),
-        left-over (whole - q) (omega (arith, within, one-of f whole blocks full some)) tail′ wrote,
-        x .counted,
-      )
+            ∙ ap (λ (n : ℕ). padded 32 (chain f w joined n)) (total ∙ x .counted);
+        left = left-over (whole - q) (omega (arith, within, one-of f whole blocks full some)) tail′ wrote;
+        number = x .counted;
+      }
 
   pub completing : (size whole : ℕ) → scale ≤ 256 → size ≡ blockBytes f → whole ≡ blockBytes f * blocks → 0 < blocks
       → Completing width size state tail q scale src whole

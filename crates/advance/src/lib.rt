@@ -2,12 +2,9 @@
 
 ghost use mathlib.Core.Path.{_≡_};
 ghost use Prim.Native.Nat.{_+_, _*_, _/_, _^_, _<_};
-ghost use lib.ListN.{take, drop};
-ghost use Rattle.simd.specs.Basic.{familyOf, blockBytes, blockBits, stateWords, table};
-ghost use Rattle.simd.specs.Message.{byteOf};
-ghost use Rattle.simd.specs.Hash.{chain};
-ghost use Rattle.bits.specs.Zero.{padded};
-ghost use Rattle.advance.specs.Joined.{Ready, joinedBits};
+ghost use lib.ListN.{length};
+ghost use Rattle.simd.specs.Basic.{familyOf, blockBytes, blockBits};
+ghost use Rattle.advance.specs.Joined.{Ready, Joins};
 
 // The full blocks of a number of bits, and the bytes of a number of blocks.
 fn full_blocks(width: u16, bits: usize) -> usize
@@ -31,8 +28,8 @@ fn bytes_of_blocks(width: u16, blocks: usize) -> usize
     }
 }
 
-// Puts the bits of a piece behind those of the tail: compresses each block that becomes full, and gives their number.
-pub fn advance(
+// Puts all bits of a source behind those of the tail, and compresses each block that the first `count` of them make full. Gives their number.
+fn join(
     width: u16,
     used: usize,
     state: &mut [u32; 32],
@@ -41,13 +38,8 @@ pub fn advance(
     count: usize,
 ) -> usize
     requires { ⌜ Ready width used (now state) (now tail) (now src) count ⌝ }
-    ensures { λ r. ⌜ (now (state .exit)
-        ≡ padded 32 (chain (familyOf width) (take (stateWords (familyOf width)) (now (state .entry)))
-        (joinedBits used (now (tail .entry)) (now (src .entry)) count) ((used + count) / blockBits (familyOf width))))
-        × (now (tail .exit)
-        ≡ table 128 (byteOf (drop (blockBits (familyOf width) * ((used + count) / blockBits (familyOf width)))
-        (joinedBits used (now (tail .entry)) (now (src .entry)) count))))
-        × (r ≡ (used + count) / blockBits (familyOf width)) ⌝ }
+    ensures { λ r. ⌜ Joins width used (now (state .entry)) (now (tail .entry)) (now (src .entry)) (8 * length (now (src .entry)))
+        ((used + count) / blockBits (familyOf width)) (now (state .exit)) (now (tail .exit)) r ⌝ }
 {
     let blocks = full_blocks(width, used + count);
     let at = used / 8;
@@ -64,5 +56,27 @@ pub fn advance(
     }
     let size = tail::block_bytes(width);
     shifted_blocks::complete_and_absorb(width, size, state, tail, at, scale, carry, src, whole);
+    blocks
+}
+
+// Puts the first `count` bits of a piece behind those of the tail: compresses each block that becomes full, and gives their number. What stands
+// past these bits in the last byte gets into the tail, and is made 0 there.
+pub fn advance(
+    width: u16,
+    used: usize,
+    state: &mut [u32; 32],
+    tail: &mut [u8],
+    src: &[u8],
+    count: usize,
+) -> usize
+    requires { ⌜ Ready width used (now state) (now tail) (now src) count ⌝ }
+    ensures { λ r. ⌜ Joins width used (now (state .entry)) (now (tail .entry)) (now (src .entry)) count
+        ((used + count) / blockBits (familyOf width)) (now (state .exit)) (now (tail .exit)) r ⌝ }
+{
+    let blocks = join(width, used, state, tail, src, count);
+    if count % 8 == 0 {
+        return blocks;
+    }
+    bits::cut(tail, tail::used_bits(width, (used + count) as u64));
     blocks
 }

@@ -2,3 +2,4 @@ pub mod Zeros
 pub mod Filling
 pub mod Parts
 pub mod Stream
+pub mod Front

@@ -1,8 +1,8 @@
 -- Laws of `allZero`, `clear` and `padded`.
 use mathlib.Core.Bool.{Bool, true, false, _&&_}
 use mathlib.Core.List.{List, [], _∷_}
-use mathlib.Core.Path.{_≡_, refl, sym, ap, _∙_}
-use Prim.Native.Nat.{ℕ, zero, suc, _+_, _-_, _/_, _%_, _^_, _<_, _≤_, _*_}
+use mathlib.Core.Path.{_≡_, refl, sym, _∙_}
+use Prim.Native.Nat.{ℕ, zero, suc, _+_, _-_, _<_, _≤_, _*_}
 use native.Mathlib.Omega.{arith}
 use native.Mathlib.Decide.{decLt}
 use borrow.Author.Tests.{eqb-true, eq-eqb}
@@ -12,7 +12,7 @@ use lib.ListN.{length, getD, take, drop, length-take, length-drop, List·getD-eq
 use lib.Seq.{getD-drop, getD-take, ext-getD}
 use Rattle.simd.specs.Message.{bitsOf, byteOf}
 use Rattle.laws.proofs.Table.{length-table, getD-table, table-of}
-use Rattle.laws.proofs.Bits.{getD-take-past, length-bitsOf, bit-at, byte-ext, byte-bitsOf, byte-past}
+use Rattle.laws.proofs.Bits.{getD-take-past, byte-ext, byte-bitsOf, byte-past}
 use Rattle.bits.specs.Zero.{allZero, clear, padded}
 
 pub and-left : (a b : Bool) → (a && b) ≡ true → a ≡ true
@@ -36,6 +36,10 @@ all-zero (x ∷ xs) at =
     let first = eq-eqb x 0 (at zero (omega arith)) in
     let rest = all-zero xs (λ i below. at (suc i) (omega arith)) in
     rw (first, rest)
+
+pub zero-past : (n : ℕ) (xs : List ℕ) → ((i : ℕ) → n ≤ i → i < length xs → getD xs i 0 ≡ 0) → allZero (drop n xs) ≡ true
+zero-past n xs at =
+    all-zero (drop n xs) (λ i below. getD-drop n xs i 0 ∙ at (n + i) (omega arith) (omega (arith, length-drop n xs)))
 
 pub false-of : (b : Bool) → (b ≡ true → ⊥) → b ≡ false
 false-of true never = absurd (never refl)
@@ -157,24 +161,6 @@ padded-take n k xs long zeros =
           let none = rw place at (sym (getD-drop k xs (i - k) 0) ∙ zero-at (drop k xs) zeros (i - k)) in
           none ∙ sym (getD-take-past k xs i (omega arith))
     ]
-
--- The first bytes of a byte string that is 0 from a place on.
-pub bit-past : (bytes : List ℕ) (i : ℕ) → length bytes ≤ i / 8 → getD (bitsOf bytes) i 0 ≡ 0
-bit-past bytes i past = List·getD-eq-default (bitsOf bytes) 0 {n = i} (omega (arith, length-bitsOf bytes))
-
-bit-take : (k : ℕ) (bytes : List ℕ) (i : ℕ) → getD (bitsOf bytes) i 0 ≡ 0 → getD (bitsOf (take k bytes)) i 0 ≡ 0
-bit-take k bytes i none =
-    elim (decLt (i / 8) k) [
-      | yes below ↦
-          bit-at (take k bytes) i
-          ∙ ap (λ (b : ℕ). b / 2 ^ (7 - i % 8) % 2) (getD-take k bytes (i / 8) 0 below)
-          ∙ sym (bit-at bytes i)
-          ∙ none
-      | no past ↦ bit-past (take k bytes) i (omega (arith, length-take k bytes))
-    ]
-
-pub clear-take : (k n : ℕ) (bytes : List ℕ) → clear n bytes ≡ true → clear n (take k bytes) ≡ true
-clear-take k n bytes zeros = clear-of n (take k bytes) (λ i from. bit-take k bytes i (clear-at n bytes zeros i from))
 
 -- A byte string that is clear from bit n on has the bytes of its first n bits.
 pub byte-clear : (n : ℕ) (bytes : List ℕ) (j : ℕ) → clear n bytes ≡ true → getD bytes j 0 < 256 → byteOf (take n (bitsOf bytes)) j ≡ getD bytes j 0

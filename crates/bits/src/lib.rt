@@ -1,10 +1,12 @@
-// Bits of a byte string: whether all past a place are 0, and bytes put behind a byte that is not full. Whole bytes are shifted, never
-// single bits.
+// Bits of a byte string: whether all past a place are 0, how they are made 0, and bytes put behind a byte that is not full. Whole bytes are
+// shifted, never single bits.
 
+ghost use mathlib.Core.Bool.{true};
 ghost use mathlib.Core.Path.{_≡_};
 ghost use Prim.Native.Nat.{_+_, _*_, _-_, _/_, _^_, _≤_, _<_};
 ghost use lib.ListN.{length, drop};
 ghost use Rattle.simd.specs.Basic.{table};
+ghost use Rattle.simd.specs.Message.{byteOf, message};
 ghost use Rattle.bits.specs.Zero.{allZero, clear};
 ghost use Rattle.bits.specs.Shift.{carryAt, shifted, withShifted};
 
@@ -108,5 +110,18 @@ pub fn blank(bytes: &mut [u8])
     while i < bytes.len() {
         bytes[i] = 0;
         i += 1;
+    }
+}
+
+// Makes all bits from a place on 0, where none is set behind the byte that follows it.
+pub fn cut(bytes: &mut [u8], from: usize)
+    requires { ⌜ (from / 8 < length (now bytes)) × (allZero (drop (from / 8 + 2) (now bytes)) ≡ true) ⌝ }
+    ensures { λ _. ⌜ now (bytes .exit) ≡ table (length (now (bytes .entry))) (byteOf (message (now (bytes .entry)) from)) ⌝ }
+{
+    let at = from / 8;
+    let kept = wide(bytes[at]) >> (8 - from % 8);
+    bytes[at] = (kept * scale_of(from % 8)) as u8;
+    if at + 1 < bytes.len() {
+        bytes[at + 1] = 0;
     }
 }

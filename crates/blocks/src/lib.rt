@@ -1,8 +1,9 @@
 // The blocks of a byte string and the length block, of either family: a block has as many bytes as the slice that is lent for it.
 ghost use mathlib.Core.Path.{_≡_};
-ghost use Prim.Native.Nat.{_+_, _/_, _%_, _^_, _≤_, min};
+ghost use Prim.Native.Nat.{_+_, _*_, _/_, _%_, _^_, _≤_, _<_, min};
 ghost use lib.ListN.{length, getD, take, drop};
 ghost use Rattle.simd.specs.Basic.{table};
+ghost use Rattle.simd.specs.Message.{byteOf, message};
 
 pub fn smaller(x: usize, y: usize) -> usize
     ensures { λ r. ⌜ r ≡ min x y ⌝ }
@@ -33,6 +34,18 @@ pub fn fill(bytes: &[u8], at: usize, block: &mut [u8])
     while j < block.len() {
         block[j] = 0;
         j += 1;
+    }
+}
+
+// The first `count` bits from a place on, with zeros behind the last one, whatever stands there.
+pub fn fill_bits(bytes: &[u8], at: usize, count: usize, block: &mut [u8])
+    requires { ⌜ (8 * at + count ≤ 8 * length (now bytes)) × ((count + 7) / 8 ≤ length (now block)) ⌝ }
+    ensures { λ _. ⌜ now (block .exit) ≡ table (length (now (block .entry))) (byteOf (message (drop at (now (bytes .entry))) count)) ⌝ }
+{
+    let used = bits::bytes_of_bits(count);
+    fill(part(bytes, at, used), 0, block);
+    if count % 8 != 0 {
+        bits::cut(block, count);
     }
 }
 

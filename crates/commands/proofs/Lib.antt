@@ -1,3 +1,2 @@
 pub mod Standings
-mod Clear
 mod Steps

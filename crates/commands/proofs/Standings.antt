@@ -63,12 +63,12 @@ module _ {width : ℕ} {m : List ℕ} {hash : Hash} (s : Stands width m hash) wh
   stands-legal = ap legal (s .same) ∙ after-legal width (s .known) m (s .bits)
 
   -- Fed.
-  module _ {piece : List ℕ} {count : ℕ} (whole : Whole piece count) where
+  module _ (piece : List ℕ) (count : ℕ) (whole : Whole piece count) where
     joins :
         length m + count ≤ limit
         → (feedAnswer hash piece count .refusal ≡ 0) × Stands width (m ++ message piece count) (feedAnswer hash piece count .hash)
     joins room =
-        let size = length-message piece count (whole .within) in
+        let size = length-message piece count whole in
         let accepted = fed-whole hash piece count stands-legal whole (omega (arith, stands-bits)) in (
           ap (λ (a : Fed). a .refusal) accepted,
           record {
@@ -86,12 +86,12 @@ module _ {width : ℕ} {m : List ℕ} {hash : Hash} (s : Stands width m hash) wh
     unfolding feedAnswer fed feedRefusal pieceRefusal
     too-long over =
         let long : limit < hash .bits + count = omega (arith, stands-bits) in
-        rw (stands-legal, le-leb count (8 * length piece) (whole .within), whole .clean, lt-leb (hash .bits + count) limit long)
+        rw (stands-legal, le-leb count (8 * length piece) whole, lt-leb (hash .bits + count) limit long)
 
     steps-by : Steps (feeding width m (message piece count)) (stepOf (feedAnswer hash piece count))
     unfolding feeding
     steps-by =
-        let size = length-message piece count (whole .within) in
+        let size = length-message piece count whole in
         elim (decLe (length m + count) limit) [
           | yes room ↦ rw (size, le-leb (length m + count) limit room) (joins room)
           | no over ↦ rw (size, lt-leb (length m + count) limit (omega arith)) (too-long (omega arith), lit< tt)

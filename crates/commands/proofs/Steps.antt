@@ -6,8 +6,10 @@ use Prim.Native.Nat.{ℕ, _+_, _≤_, _<_}
 use native.Mathlib.Omega.{arith}
 use lib.Dec.{lit<}
 use lib.ListN.{length, drop, length-take, length-drop}
+use lib.Seq.{take-all}
 use Rattle.simd.specs.Basic.{isWidth}
-use Rattle.bits.specs.Zero.{clear}
+use Rattle.simd.specs.Message.{bitsOf, message}
+use Rattle.laws.proofs.Bits.{length-bitsOf}
 use Rattle.hash.specs.Open.{openAnswer, feedAnswer}
 use Rattle.hash.specs.declared.Hash.{Hash}
 use Rattle.hash.specs.declared.Opened.{Opened}
@@ -17,7 +19,6 @@ use Rattle.reader.specs.declared.Command.the-variants.{Open, Full, Part, Stop}
 use Rattle.commands.specs.Effect.{closed, opened, refuses, effect, piece}
 use Rattle.commands.specs.Standing.{Steps, Obeys, Opens, Takes}
 use Rattle.commands.proofs.Standings.{stepOf, stands-fresh, open-accepted, open-refused, stands-open, feed-steps}
-use Rattle.commands.proofs.Clear.{whole-part, whole-full, message-full}
 
 -- 12: a command that needs an open hash, where none is.
 pub none-open :
@@ -45,6 +46,10 @@ pub open-new :
 open-new width hash a none e tape closed st = rw e (open-by (isWidth width) width refl tape)
 open-new width hash a none e tape (opened w m) st = absurd (stands-open st none)
 
+message-full : (piece : List ℕ) → length piece ≡ 32 → message piece 256 ≡ bitsOf piece
+unfolding message
+message-full piece size = take-all 256 (bitsOf piece) (omega (arith, length-bitsOf piece))
+
 -- FULL and PART of an open hash.
 module _ (tape : List ℕ) (p : ℕ) (hash : Hash) (some : hash .width ≡ 0 → ⊥) where
   piece-size : p + 32 ≤ length tape → length (piece tape p) ≡ 32
@@ -55,21 +60,15 @@ module _ (tape : List ℕ) (p : ℕ) (hash : Hash) (some : hash .width ≡ 0 →
   full-fed a inside e closed st = absurd (some st)
   full-fed a inside e (opened w m) st =
       let size = piece-size inside in
-      let step = feed-steps st (whole-full (piece tape p) size) a e in
+      let step = feed-steps st (piece tape p) 256 (omega arith) a e in
       rw (message-full (piece tape p) size) at step
 
-  pub part-set : (n : ℕ) → clear n (piece tape p) ≡ false → Obeys tape (Part n p) hash (record { hash = hash; refusal = 3 })
-  unfolding effect
-  part-set n set closed st = absurd (some st)
-  part-set n set (opened w m) st = rw set (refl, lit< tt)
-
   pub part-fed :
-      (n : ℕ) (a : Fed) → p + 32 ≤ length tape → n < 256 → clear n (piece tape p) ≡ true → a ≡ feedAnswer hash (piece tape p) n
+      (n : ℕ) (a : Fed) → p + 32 ≤ length tape → n < 256 → a ≡ feedAnswer hash (piece tape p) n
       → Obeys tape (Part n p) hash (stepOf a)
   unfolding effect
-  part-fed n a inside small clean e closed st = absurd (some st)
-  part-fed n a inside small clean e (opened w m) st =
-      rw clean (feed-steps st (whole-part (piece tape p) n (omega (arith, piece-size inside)) clean) a e)
+  part-fed n a inside small e closed st = absurd (some st)
+  part-fed n a inside small e (opened w m) st = feed-steps st (piece tape p) n (omega (arith, piece-size inside)) a e
 
 -- TAKE of an open hash, and STOP.
 pub take-open : (hash : Hash) → (hash .width ≡ 0 → ⊥) → Takes hash (record { hash = hash; refusal = 0 })

@@ -6,7 +6,6 @@ use lib.Dec.{leb}
 use lib.ListN.{length, take, drop}
 use Rattle.simd.specs.Basic.{isWidth}
 use Rattle.simd.specs.Message.{bitsOf, message}
-use Rattle.bits.specs.Zero.{clear}
 use Rattle.hash.specs.Open.{limit}
 use Rattle.reader.specs.declared.Command.{Command}
 use Rattle.reader.specs.declared.Command.the-variants.{Open, Full, Part, Take, Stop}
@@ -31,7 +30,7 @@ piece tape place = take 32 (drop place tape)
 unfoldable pub feeding : ℕ → List ℕ → List ℕ → Effect
 feeding width fed bits = cond (leb (length fed + length bits) limit) (goes (opened width (fed ++ bits))) (refuses 4)
 
--- 12: OPEN while open, or FULL, PART, TAKE while not. 1: no such width. 3: a bit set past the count of PART, in all of its 32 bytes.
+-- 12: OPEN while open, or FULL, PART, TAKE while not. 1: no such width. Of the 32 bytes of PART all that stands past its count is ignored.
 unfoldable pub effect : List ℕ → Hashing → Command → Effect
 effect tape closed (Open w) = cond (isWidth w) (goes (opened w [])) (refuses 1)
 effect tape closed (Full p) = refuses 12
@@ -40,7 +39,6 @@ effect tape closed Take = refuses 12
 effect tape closed Stop = stops
 effect tape (opened width fed) (Open w) = refuses 12
 effect tape (opened width fed) (Full p) = feeding width fed (bitsOf (piece tape p))
-effect tape (opened width fed) (Part n p) =
-    cond (clear n (piece tape p)) (feeding width fed (message (piece tape p) n)) (refuses 3)
+effect tape (opened width fed) (Part n p) = feeding width fed (message (piece tape p) n)
 effect tape (opened width fed) Take = takes width fed
 effect tape (opened width fed) Stop = stops

@@ -59,12 +59,6 @@ fn part(hash: Hash, tape: &[u8], count: u8, place: usize) -> Step
             refusal: 12,
         };
     }
-    if !bits::bits_zero(&tape[place..place + 32], count as usize) {
-        return Step {
-            hash: hash,
-            refusal: 3,
-        };
-    }
     let fed = hash.feed(&tape[place..place + 32], count as usize);
     let fresh = fed.hash;
     Step {

@@ -1,16 +1,16 @@
 -- The theorems of the comparison, for every two messages that break no rule and at every width. They are about `answer`, the very
--- definition that the contract of `compare` cites.
-use mathlib.Core.Bool.{false, true}
+-- definition that the contract of `compare` cites. The last two are for all messages: what stands past their bits has no part in the answer.
+use mathlib.Core.Bool.{false, true, cond}
 use mathlib.Core.List.{List}
 use mathlib.Core.Logic.{_↔_, _⊎_, inl, inr}
 use mathlib.Core.Path.{_≡_, refl, sym, ap, _∙_}
-use Prim.Native.Nat.{ℕ, suc, _<_, _≤_}
+use Prim.Native.Nat.{ℕ, zero, suc, _<_, _≤_}
 use native.Mathlib.Decide.{decLt}
 use native.Mathlib.Omega.{arith}
 use lib.Dec.{eqb}
 use lib.ListN.{length, getD}
 use lib.Seq.{ext-getD}
-use Rattle.simd.specs.Basic.{Family, familyOf}
+use Rattle.simd.specs.Basic.{Family, familyOf, isWidth}
 use Rattle.simd.specs.Constants.{start}
 use Rattle.simd.specs.Message.{message, messageBlocks}
 use Rattle.simd.specs.Steps.{compression}
@@ -18,10 +18,13 @@ use Rattle.simd.specs.Hash.{finalState, compressions}
 use Rattle.pairs.specs.Pairs.{stateAt, blockAt}
 use Rattle.pairs.specs.Compared.{Found, same, apart, meet, common, found, compared}
 use Rattle.pairs.specs.Answer.{refusal, verdict, answer}
-use Rattle.pairs.specs.declared.Verdict.the-variants.{Same, Apart, Meet}
+use Rattle.pairs.specs.declared.Verdict.{Verdict}
+use Rattle.pairs.specs.declared.Verdict.the-variants.{Same, Apart, Meet, Refused}
+use Rattle.hash.specs.Open.{first as earlier, pieceRefusal}
 use Rattle.hash.proofs.Feeding.{length-message}
+use Rattle.hash.proofs.Refusing.{Accepted, accepted}
+use Rattle.hash.proofs.Ignored.{Agree, same-refusal, neither, neither-first, piece-not-3}
 use Rattle.pairs.proofs.ByteLaws.{is-message}
-use Rattle.pairs.proofs.RefusalLaws.{Accepted, accepted}
 use Rattle.pairs.proofs.PairLaws.{first-state, out-of-message, out-of-length}
 use Rattle.pairs.proofs.FoundLaws as laws
 
@@ -79,20 +82,20 @@ module _ (width : ℕ) (a : List ℕ) (na : ℕ) (b : List ℕ) (nb : ℕ) (rule
   abbrev y : List ℕ
   y = message b nb
 
-  first : Accepted a na
-  first = accepted a na (laws.unrefused width a na b nb rules .0)
+  first : Accepted 0 a na
+  first = accepted 0 a na (laws.unrefused width a na b nb rules .0)
 
-  second : Accepted b nb
-  second = accepted b nb (laws.unrefused width a na b nb rules .1)
+  second : Accepted 0 b nb
+  second = accepted 0 b nb (laws.unrefused width a na b nb rules .1)
 
   same-message : SameBits a na b nb ↔ (x ≡ y)
   same-message = (
     λ s.
-        ext-getD 0 x y (length-message a na (first .fits) ∙ s .lengths ∙ sym (length-message b nb (second .fits)))
-        (λ i low. s .bits i (omega (arith, length-message a na (first .fits)))),
+        ext-getD 0 x y (length-message a na (first .within) ∙ s .lengths ∙ sym (length-message b nb (second .within)))
+        (λ i low. s .bits i (omega (arith, length-message a na (first .within)))),
     λ e.
         record {
-          lengths = sym (length-message a na (first .fits)) ∙ ap length e ∙ length-message b nb (second .fits);
+          lengths = sym (length-message a na (first .within)) ∙ ap length e ∙ length-message b nb (second .within);
           bits = λ i low. ap (λ (m : List ℕ). getD m i 0) e;
         },
   )
@@ -158,8 +161,8 @@ module _ (width : ℕ) (a : List ℕ) (na : ℕ) (b : List ℕ) (nb : ℕ) (rule
   unfolding common
   at-meet k e =
       let met = laws.verdict-meet (found f (start width) x y) k (sym unrefused ∙ e) in
-      let wx = is-message a na (first .fits) (first .short) in
-      let wy = is-message b nb (second .fits) (second .short) in
+      let wx = is-message a na (laws.unrefused width a na b nb rules .0) in
+      let wy = is-message b nb (laws.unrefused width a na b nb rules .1) in
       let low = laws.common-meet f (start width) x y wx wy k met in
       let below = laws.below-meet f (start width) x y k met in
       record {
@@ -174,3 +177,31 @@ module _ (width : ℕ) (a : List ℕ) (na : ℕ) (b : List ℕ) (nb : ℕ) (rule
       above : (i : ℕ) → (laws.SamePair f (start width) x y i → ⊥) → Dec (i < k) → k ≤ i
       above i d (yes low) = absurd (d (laws.below-meet f (start width) x y k (laws.verdict-meet (found f (start width) x y) k (sym unrefused ∙ e)) i low))
       above i d (no high) = omega (arith, high)
+
+-- The answer depends on the messages' bits alone: what stands past the counts is ignored.
+pub bits-alone : (width : ℕ) {a a′ b b′ : List ℕ} {na nb : ℕ} → Agree na a a′ → Agree nb b b′ → answer width a na b nb ≡ answer width a′ na b′ nb
+unfolding answer refusal
+bits-alone width first second =
+    λ i.
+    verdict (cond (isWidth width) (earlier (same-refusal 0 first i) (same-refusal 0 second i)) 1) (compared width (first .bits i) (second .bits i))
+
+-- So they are no reason for a refusal: 3 never occurs.
+abbrev numberOf : Verdict → ℕ
+numberOf Same = 0
+numberOf Apart = 0
+numberOf (Meet k) = 0
+numberOf (Refused n) = n
+
+refused-by : (r : ℕ) (f : Found) → numberOf (verdict r f) ≡ r
+unfolding verdict
+refused-by (suc r) f = refl
+refused-by zero same = refl
+refused-by zero apart = refl
+refused-by zero (meet k) = refl
+
+pub never-3 : (width : ℕ) (a : List ℕ) (na : ℕ) (b : List ℕ) (nb : ℕ) → answer width a na b nb ≡ Refused 3 → ⊥
+unfolding answer refusal
+never-3 width a na b nb e =
+    neither (isWidth width) (neither-first (pieceRefusal 0 a na) (pieceRefusal 0 b nb) (piece-not-3 0 a na) (piece-not-3 0 b nb))
+    (λ (e : 1 ≡ 3). omega arith)
+    (sym (refused-by _ (compared width (message a na) (message b nb))) ∙ ap numberOf e)

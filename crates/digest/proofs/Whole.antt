@@ -2,23 +2,21 @@
 use mathlib.Core.Bool.{true, false, cond}
 use mathlib.Core.List.{List, _++_}
 use mathlib.Core.Path.{_≡_, sym, ap, _∙_}
-use Prim.Native.Nat.{ℕ, _+_, _-_, _/_, _<_, _≤_}
+use Prim.Native.Nat.{ℕ, _-_, _<_, _≤_}
 use native.Mathlib.Omega.{arith}
 use borrow.Author.Tests.{leb-true, lt-leb, le-leb}
 use borrow.Rule.Slice.PartMut.{postOf}
 use lib.Dec.{leb}
-use lib.ListN.{length, getD, take, length-take}
-use Rattle.simd.specs.Basic.{Family, familyOf, isWidth, blockBytes, stateWords, bytesOf, digestBytes}
+use lib.ListN.{length, take, length-take}
+use Rattle.simd.specs.Basic.{Family, familyOf, isWidth, stateWords, bytesOf, digestBytes}
 use Rattle.simd.specs.Constants.{start}
 use Rattle.simd.specs.Message.{message, messageBlocks, lengthBlock}
 use Rattle.simd.specs.Steps.{compression}
 use Rattle.simd.specs.Hash.{chain, final, finalState, digest}
 use Rattle.laws.proofs.Chain.{length-compression}
-use Rattle.iteration.specs.Blocks.{absorbed}
 use Rattle.bits.specs.Zero.{padded}
 use Rattle.bits.proofs.Zeros.{take-padded}
 use Rattle.tail.proofs.Sizes.{words-within}
-use Rattle.tail.proofs.Closing.{closed}
 use Rattle.little_endian.proofs.Writing.{state-bytes}
 use Rattle.hash.specs.Open.{pieceRefusal, written}
 use Rattle.hash.proofs.Feeding.{length-message, start-length}
@@ -66,37 +64,28 @@ accepted width bytes count room r same none =
       enough = leb-true (digestBytes width) room (passed (leb (digestBytes width) room) 0 5 (two .1) .0);
     }
 
-module _ (width : ℕ) (bytes : List ℕ) (count room : ℕ) (a : Accepted width bytes count room) (fits : (i : ℕ) → getD bytes i 0 < 256)
-    (b : ℕ) (cut : b ≡ (count + 7) / 8) where
-  -- The bytes of the message, as the code cuts them.
-  abbrev used : List ℕ
-  used = take (b - 0) bytes
-
+module _ (width : ℕ) (bytes : List ℕ) (count room : ℕ) (a : Accepted width bytes count room) where
   abbrev f : Family
   f = familyOf width
 
-  -- The state after the length block is the final state.
-  finished : (state state′ : List ℕ) → state ≡ padded 32 (start width)
-      → state′ ≡ padded 32 (compression f true
-      (absorbed f (take (stateWords f) state) used ((length used + (blockBytes f - 1)) / blockBytes f))
-      (lengthBlock f count))
+  -- The state after all blocks, from a given one.
+  abbrev concluded : List ℕ → List ℕ
+  concluded state =
+      padded 32 (compression f true (chain f (take (stateWords f) state) (message bytes count) (messageBlocks f count)) (lengthBlock f count))
+
+  -- From the starting state it is the final state.
+  finished : (state state′ : List ℕ) → state ≡ padded 32 (start width) → state′ ≡ concluded state
       → state′ ≡ padded 32 (finalState width (message bytes count))
-  unfolding finalState final message
+  unfolding finalState final
   finished state state′ begun stated =
       let first : take (stateWords f) state ≡ start width =
       ap (take (stateWords f)) begun ∙ take-padded 32 (stateWords f) (start width) (start-length width (a .known)) (words-within f) in
-      closed bytes count (a .whole .within) (a .whole .clean) fits f (start width) (lengthBlock f count) b cut
-      (stated
-      ∙ ap (λ (s : List ℕ). padded 32 (compression f true (absorbed f s used ((length used + (blockBytes f - 1)) / blockBytes f)) (lengthBlock f count)))
-      first)
-      ∙ ap (λ (n : ℕ). padded 32 (compression f true (chain f (start width) (message bytes count) (messageBlocks f n)) (lengthBlock f n)))
-      (sym (length-message bytes count (a .whole .within)))
+      let size = sym (length-message bytes count (a .whole .within)) in
+      stated ∙ λ i. padded 32 (compression f true (chain f (first i) (message bytes count) (messageBlocks f (size i))) (lengthBlock f (size i)))
 
   -- What is written.
   pub digest-written : (k : ℕ) → k ≡ digestBytes width → (out state state′ front : List ℕ) → length out ≡ room → state ≡ padded 32 (start width)
-      → state′ ≡ padded 32 (compression f true
-      (absorbed f (take (stateWords f) state) used ((length used + (blockBytes f - 1)) / blockBytes f))
-      (lengthBlock f count))
+      → state′ ≡ concluded state
       → front ≡ take (length (take (k - 0) out)) (bytesOf state′)
       → front ++ postOf 0 (k - 0) out ≡ written 0 (digest width (message bytes count)) out
   unfolding digest finalState final

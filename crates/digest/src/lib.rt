@@ -23,7 +23,8 @@ fn refusal(width: u16, message: &[u8], count: usize, room: usize) -> u8
     0
 }
 
-// Writes the digest of the first `count` bits of a message. Answers the refusal's number, or 0. Refusals 1, 2, 3, 4, 6.
+// Writes the digest of the first `count` bits of a message; what stands past them is ignored. Answers the refusal's number, or 0. Refusals 1, 2,
+// 4, 6.
 pub fn digest(width: u16, message: &[u8], count: usize, out: &mut [u8]) -> u8
     ensures { λ r. ⌜ r ≡ digestRefusal width (now (message .entry)) count (length (now (out .entry))) ⌝ }
     ensures { λ r. ⌜ now (out .exit) ≡ written (digestRefusal width (now (message .entry)) count (length (now (out .entry))))
@@ -34,8 +35,7 @@ pub fn digest(width: u16, message: &[u8], count: usize, out: &mut [u8]) -> u8
         return refused;
     }
     let mut state = hash_parts::start_state(width);
-    let bytes = bits::bytes_of_bits(count);
-    tail::conclude(width, &mut state, &message[0..bytes], count as u64);
+    tail::conclude(width, &mut state, message, count, count as u64);
     let length = tail::digest_bytes(width);
     little_endian::write_words(&mut out[0..length], state);
     0

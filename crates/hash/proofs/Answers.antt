@@ -25,7 +25,7 @@ use Rattle.hash_parts.specs.Legal.{legalParts}
 use Rattle.hash.specs.Open.{family, used, reached, pending, holding, legal, openRefusal, opened, openAnswer, fullBlocks, advanced}
 use Rattle.hash.specs.Open.{pieceRefusal, feedRefusal, fed, feedAnswer, finalOf, digestOf, takeRefusal, taken, takeAnswer, written}
 use Rattle.hash.specs.Form.{formBytes, formOf, formFamily, hashOf, storeRefusal, storeAnswer, restoreRefusal, restoreAnswer}
-use Rattle.advance.specs.Joined.{Ready, joinedBits}
+use Rattle.advance.specs.Joined.{Ready, joinedBits, Joins}
 use Rattle.hash.specs.declared.Hash.{Hash}
 use Rattle.bits.proofs.Zeros.{padded-take}
 use Rattle.tail.proofs.Sizes.{words-within}
@@ -126,7 +126,6 @@ module _ (h : Hash) (piece : List ℕ) (count : ℕ) (a : Accepts h piece count)
         state-clear = legal-state h (a .good);
         tail-clear = rw same (legal-tail h (a .good));
         source = omega (arith, length-take (b - 0) piece, a .whole .within);
-        source-clear = rw bytes-used (a .whole .clean);
         short = omega (arith, a .whole .short);
       }
 
@@ -136,26 +135,22 @@ module _ (h : Hash) (piece : List ℕ) (count : ℕ) (a : Accepts h piece count)
   piece-bits = ap (λ (n : ℕ). take count (bitsOf (take n piece))) bytes-used ∙ front-bits piece count (a .whole .within)
 
   pub feed-answered : (n r : ℕ) → n ≡ used h → r ≡ feedRefusal h piece count → r ≡ 0 → (state′ tail′ : List ℕ) (blocks : ℕ)
-      → state′ ≡ padded 32 (chain (family h) (take (stateWords (family h)) (h .state)) (joinedBits n (h .tail) (take (b - 0) piece) count)
-      ((n + count) / blockBits (family h)))
-      → tail′ ≡ table 128 (byteOf (drop (blockBits (family h) * ((n + count) / blockBits (family h)))
-      (joinedBits n (h .tail) (take (b - 0) piece) count)))
-      → blocks ≡ (n + count) / blockBits (family h)
+      → Joins (h .width) n (h .state) (h .tail) (take (b - 0) piece) count ((n + count) / blockBits (family h)) state′ tail′ blocks
       → record { hash = record { width = h .width; bits = h .bits + count; state = state′; tail = tail′ }; blocks = blocks; refusal = 0 }
       ≡ feedAnswer h piece count
-  unfolding feedAnswer fed advanced fullBlocks holding reached pending joinedBits
-  feed-answered n r same refuses none state′ tail′ blocks stated left counted =
+  unfolding feedAnswer fed advanced fullBlocks holding reached pending joinedBits message
+  feed-answered n r same refuses none state′ tail′ blocks joins =
       let f = family h in
       let size = length-message piece count (a .whole .within) in
       let joined : joinedBits n (h .tail) (take (b - 0) piece) count ≡ pending h ++ message piece count =
       λ i. take (same i) (bitsOf (h .tail)) ++ piece-bits i in
       let full : (n + count) / blockBits f ≡ (used h + length (message piece count)) / blockBits f = λ i. (same i + sym size i) / blockBits f in
       let total : h .bits + count ≡ h .bits + length (message piece count) = ap (λ (m : ℕ). h .bits + m) (sym size) in
-      let state = stated ∙ λ i. padded 32 (chain f (reached h) (joined i) (full i)) in
-      let tail = left ∙ λ i. table 128 (byteOf (drop (blockBits f * full i) (joined i))) in
+      let state = joins .compressed ∙ λ i. padded 32 (chain f (reached h) (joined i) (full i)) in
+      let tail = joins .left ∙ λ i. table 128 (byteOf (drop (blockBits f * full i) (joined i))) in
       rw (sym refuses ∙ none) (λ i. record {
         hash = record { width = h .width; bits = total i; state = state i; tail = tail i };
-        blocks = (counted ∙ full) i;
+        blocks = (joins .number ∙ full) i;
         refusal = 0;
       })
 
@@ -178,20 +173,20 @@ words-above h good = digest-room (h .width) (legal-width h good)
 pub take-answered : (h : Hash) (out : List ℕ) (r : ℕ) → r ≡ takeRefusal h out → r ≡ 0 → (k : ℕ) → k ≡ digestBytes (h .width)
     → (state′ bytes : List ℕ) (blocks : ℕ)
     → state′ ≡ padded 32 (compression (family h) true
-    (chain (family h) (take (stateWords (family h)) (h .state)) (take (used h) (bitsOf (h .tail))) (messageBlocks (family h) (used h)))
+    (chain (family h) (take (stateWords (family h)) (h .state)) (message (h .tail) (used h)) (messageBlocks (family h) (used h)))
     (lengthBlock (family h) (h .bits)))
     → blocks ≡ compressions (family h) (used h)
     → bytes ≡ take (length (take (k - 0) out)) (bytesOf state′)
     → (record { hash = h; blocks = blocks; refusal = 0 } ≡ takeAnswer h out)
     × (bytes ++ postOf 0 (k - 0) out ≡ written (takeRefusal h out) (digestOf h) out)
-unfolding takeAnswer taken digestOf finalOf reached pending
+unfolding takeAnswer taken digestOf finalOf reached pending message
 take-answered h out r same none k sized state′ bytes blocks stated counted wrote =
     let facts = take-facts h out r same none in
     let zero-refusal = sym same ∙ none in
     let n = digestBytes (h .width) in
     let f = family h in
     let size : length (take (k - 0) out) ≡ n = omega (arith, length-take (k - 0) out, facts .1) in
-    let before = chain f (take (stateWords f) (h .state)) (take (used h) (bitsOf (h .tail))) (messageBlocks f (used h)) in
+    let before = chain f (take (stateWords f) (h .state)) (message (h .tail) (used h)) (messageBlocks f (used h)) in
     let words = length-compression f true before (lengthBlock f (h .bits)) in
     let digest : bytes ≡ digestOf h =
     wrote

@@ -3,23 +3,21 @@ use mathlib.Core.Bool.{Bool, true, false, _||_}
 use mathlib.Core.List.{List}
 use mathlib.Core.Logic.{_⊎_, inl, inr, ⊎-elim}
 use mathlib.Core.Path.{_≡_, refl, sym, subst}
-use Prim.Native.Nat.{ℕ, _+_, _*_, _/_, _≤_}
+use Prim.Native.Nat.{ℕ, _+_, _*_, _≤_}
 use native.Mathlib.Omega.{arith}
 use borrow.Author.Tests.{eqb-true, le-leb}
 use lib.Dec.{eqb}
-use lib.ListN.{length, take, length-take}
+use lib.ListN.{length, length-take}
 use Rattle.simd.specs.Basic.{familyOf, isWidth, stateWords}
 use Rattle.simd.specs.Constants.{start, start224, start256, start384, start512}
 use Rattle.simd.specs.Message.{bitsOf, message}
 use Rattle.laws.proofs.Bits.{Bits, bits-bitsOf, bits-take, length-bitsOf}
-use Rattle.bits.specs.Zero.{clear}
 use Rattle.hash.specs.Open.{limit, legal, fullBlocks, advanced, pieceRefusal, feedRefusal, fed, feedAnswer}
 use Rattle.hash.specs.declared.Hash.{Hash}
 
--- A piece that is no reason for a refusal: its count is within its bytes, and no bit is set past the count.
-pub record Whole (piece : List ℕ) (count : ℕ) : Type 0 where
-  pub within : count ≤ 8 * length piece
-  pub clean : clear count (take ((count + 7) / 8) piece) ≡ true
+-- A piece that is no reason for a refusal: its count is within its bytes.
+abbrev pub Whole : List ℕ → ℕ → Type 0
+Whole piece count = count ≤ 8 * length piece
 
 pub length-message : (piece : List ℕ) (count : ℕ) → count ≤ 8 * length piece → length (message piece count) ≡ count
 unfolding message
@@ -32,7 +30,7 @@ bits-message piece count = bits-take count (bitsOf piece) (bits-bitsOf piece)
 unrefused : (h : Hash) (piece : List ℕ) (count : ℕ) → legal h ≡ true → Whole piece count → h .bits + count ≤ limit → feedRefusal h piece count ≡ 0
 unfolding feedRefusal pieceRefusal
 unrefused h piece count good whole short =
-    rw (good, le-leb count (8 * length piece) (whole .within), whole .clean, le-leb (h .bits + count) limit short)
+    rw (good, le-leb count (8 * length piece) whole, le-leb (h .bits + count) limit short)
 
 pub fed-whole : (h : Hash) (piece : List ℕ) (count : ℕ) → legal h ≡ true → Whole piece count → h .bits + count ≤ limit
     → feedAnswer h piece count ≡ record { hash = advanced h (message piece count); blocks = fullBlocks h (length (message piece count)); refusal = 0 }

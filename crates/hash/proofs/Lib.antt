@@ -3,3 +3,4 @@ pub mod Feeding
 pub mod Digests
 pub mod Refusing
 pub mod Answers
+pub mod Ignored

@@ -2,12 +2,11 @@
 use mathlib.Core.Bool.{Bool, true, false, cond}
 use mathlib.Core.List.{List, _++_}
 use mathlib.Core.Path.{_≡_, refl, ap}
-use Prim.Native.Nat.{ℕ, zero, suc, _+_, _*_, _-_, _/_, _<_, _≤_}
+use Prim.Native.Nat.{ℕ, zero, suc, _+_, _*_, _<_, _≤_}
 use native.Mathlib.Omega.{arith}
 use borrow.Author.Tests.{leb-true, le-leb, lt-leb}
 use lib.Dec.{leb}
-use lib.ListN.{length, take, drop}
-use Rattle.bits.specs.Zero.{clear}
+use lib.ListN.{length, drop}
 use Rattle.hash.specs.Open.{limit, pieceRefusal, written, first}
 pub use Rattle.hash_parts.proofs.Refusing.{passed}
 
@@ -22,18 +21,13 @@ module _ (n : ℕ) (piece : List ℕ) (count : ℕ) where
   unfolding pieceRefusal
   count-above above = rw (lt-leb count (8 * length piece) above)
 
-  module _ (bytes : ℕ) (used-bytes : bytes ≡ (count + 7) / 8) (within : count ≤ 8 * length piece) where
-    pub bit-past : clear count (take (bytes - 0) piece) ≡ false → 3 ≡ pieceRefusal n piece count
-    unfolding pieceRefusal
-    bit-past bit =
-        let same : (count + 7) / 8 ≡ bytes - 0 = omega arith in
-        rw (le-leb count (8 * length piece) within, same, bit)
+  pub total-above : count ≤ 8 * length piece → limit < n + count → 4 ≡ pieceRefusal n piece count
+  unfolding pieceRefusal
+  total-above within above = rw (le-leb count (8 * length piece) within, lt-leb (n + count) limit above)
 
-    pub total-decides : clear count (take (bytes - 0) piece) ≡ true → cond (leb (n + count) limit) 0 4 ≡ pieceRefusal n piece count
-    unfolding pieceRefusal
-    total-decides clean =
-        let same : (count + 7) / 8 ≡ bytes - 0 = omega arith in
-        rw (le-leb count (8 * length piece) within, same, clean)
+  pub total-within : count ≤ 8 * length piece → n + count ≤ limit → 0 ≡ pieceRefusal n piece count
+  unfolding pieceRefusal
+  total-within within short = rw (le-leb count (8 * length piece) within, le-leb (n + count) limit short)
 
 -- A first refusal hides a second one, and a refusal leaves the buffer that was lent.
 pub first-refused : (r s : ℕ) → (r ≡ 0 → ⊥) → first r s ≡ r
@@ -61,17 +55,11 @@ both-passed (suc r) s e = absurd (omega arith)
 
 pub record Accepted (n : ℕ) (piece : List ℕ) (count : ℕ) : Type 0 where
   pub within : count ≤ 8 * length piece
-  pub clean : clear count (take ((count + 7) / 8) piece) ≡ true
   pub short : n + count ≤ limit
 
 pub accepted : (n : ℕ) (piece : List ℕ) (count : ℕ) → pieceRefusal n piece count ≡ 0 → Accepted n piece count
 unfolding pieceRefusal
 accepted n piece count none =
     let counted = passed (leb count (8 * length piece)) _ 1 none in
-    let cleared = passed (clear count (take ((count + 7) / 8) piece)) _ 2 (counted .1) in
-    let total = passed (leb (n + count) limit) 0 3 (cleared .1) in
-    record {
-      within = leb-true count (8 * length piece) (counted .0);
-      clean = cleared .0;
-      short = leb-true (n + count) limit (total .0);
-    }
+    let total = passed (leb (n + count) limit) 0 3 (counted .1) in
+    record { within = leb-true count (8 * length piece) (counted .0); short = leb-true (n + count) limit (total .0) }

@@ -11,7 +11,7 @@ use Rattle.simd.specs.Constants.{start}
 use Rattle.simd.specs.Message.{bitsOf, byteOf, message, messageBlocks, lengthBlock}
 use Rattle.simd.specs.Steps.{compression}
 use Rattle.simd.specs.Hash.{chain, compressions}
-use Rattle.bits.specs.Zero.{clear, padded}
+use Rattle.bits.specs.Zero.{padded}
 use Rattle.hash_parts.specs.Legal.{legalParts}
 use Rattle.hash.specs.declared.Hash.{Hash}
 use Rattle.hash.specs.declared.Opened.{Opened}
@@ -66,13 +66,9 @@ advanced h m =
     let k = fullBlocks h (length m) in
     holding (h .width) (h .bits + length m) (chain (family h) (reached h) joined k) (drop (blockBits (family h) * k) joined)
 
--- A piece after n bits: 2 where the count is above its bits, 3 where a bit is set past the count in the last byte used, 4 where the total is
--- above the limit.
+-- A piece after n bits: 2 where the count is above its bits, 4 where the total is above the limit. What stands past the count is ignored.
 unfoldable pub pieceRefusal : ℕ → List ℕ → ℕ → ℕ
-pieceRefusal n piece count =
-    cond (leb count (8 * length piece))
-    (cond (clear count (take ((count + 7) / 8) piece)) (cond (leb (n + count) limit) 0 4) 3)
-    2
+pieceRefusal n piece count = cond (leb count (8 * length piece)) (cond (leb (n + count) limit) 0 4) 2
 
 unfoldable pub feedRefusal : Hash → List ℕ → ℕ → ℕ
 feedRefusal h piece count = cond (legal h) (pieceRefusal (h .bits) piece count) 5

@@ -49,12 +49,8 @@ pub struct Stored {
 pub fn piece_refusal(bits: u64, piece: &[u8], count: usize) -> u8
     ensures { λ r. ⌜ r ≡ pieceRefusal bits (now (piece .entry)) count ⌝ }
 {
-    let bytes = bits::bytes_of_bits(count);
-    if piece.len() < bytes {
+    if piece.len() < bits::bytes_of_bits(count) {
         return 2;
-    }
-    if !bits::bits_zero(&piece[0..bytes], count) {
-        return 3;
     }
     if LIMIT < bits {
         return 4;
@@ -114,7 +110,7 @@ impl Hash {
         Opened { hash, refusal: 1 }
     }
 
-    // Feeds the first `count` bits of a piece. Refusals 5, 2, 3, 4.
+    // Feeds the first `count` bits of a piece; what stands past them is ignored. Refusals 5, 2, 4.
     pub fn feed(mut self, piece: &[u8], count: usize) -> Fed
         ensures { λ r. ⌜ r ≡ feedAnswer self (now (piece .entry)) count ⌝ }
     {

@@ -19,7 +19,7 @@ unfoldable pub joined : List Piece → List ℕ
 joined [] = []
 joined (p ∷ ps) = message (p .bytes) (p .count) ++ joined ps
 
--- Every piece has its count within its bytes, and no bit set past the count.
+-- Every piece has its count within its bytes. What stands past the count is no part of it.
 abbrev pub Wholes : List Piece → Type 0
 Wholes [] = Unit {0}
 Wholes (p ∷ ps) = Whole (p .bytes) (p .count) × Wholes ps
@@ -68,7 +68,7 @@ all-joined {H} {S} {form} {feed} {after} {count} {Ready} laws h [] whole fit =
     λ i. record { left = form (sym (same .0) i); blocks = sym (same .1) i; refusal = 0 }
 all-joined {H} {S} {form} {feed} {after} {count} {Ready} laws h (p ∷ ps) whole fit =
     let m = message (p .bytes) (p .count) in
-    let size = length-message (p .bytes) (p .count) (whole .0 .within) in
+    let size = length-message (p .bytes) (p .count) (whole .0) in
     let bit = bits-message (p .bytes) (p .count) in
     let all : Ready h (length m + length (joined ps)) = rw (sym (length-append m (joined ps))) fit in
     let first : Ready h (p .count) = rw (sym size) (laws .fewer h (length m) (length (joined ps)) all) in

@@ -7,9 +7,8 @@ use native.Mathlib.Nat.{zero-add}
 use native.Mathlib.Omega.{arith}
 use borrow.Author.Tests.{le-leb}
 use lib.Dec.{eqb, eqb·suc-zero}
-use lib.ListN.{length, getD, take, drop, length-take, List·getD-eq-default}
-use lib.Seq.{take-all, getD-take, ext-getD}
-use native.Mathlib.Decide.{decLt}
+use lib.ListN.{length, getD, take, drop, length-take}
+use lib.Seq.{getD-take, ext-getD}
 use Rattle.simd.specs.Basic.{Family, small, large, familyOf, isWidth, blockBits, bytesOf, table, digestBytes}
 use Rattle.simd.specs.Constants.{start}
 use Rattle.simd.specs.Message.{bitsOf, byteOf, message, messageBlocks, lengthBlock}
@@ -17,13 +16,11 @@ use Rattle.simd.specs.Steps.{compression}
 use Rattle.simd.specs.Hash.{chain, final, finalState, digest, compressions}
 use Rattle.laws.proofs.Table.{length-table}
 use Rattle.laws.proofs.Bits.{Bits, bitsOf-bytes, length-bitsOf}
-use Rattle.bits.specs.Zero.{allZero, clear}
 use Rattle.hash.specs.Open.{limit, family, used, reached, pending, holding, legal, openRefusal, opened, openAnswer}
 use Rattle.hash.specs.Open.{fullBlocks, advanced, feedAnswer, finalOf, digestOf, takeRefusal, taken, takeAnswer, written}
 use Rattle.hash.specs.declared.Hash.{Hash}
 use Rattle.hash.specs.declared.Opened.{Opened}
 use Rattle.hash.specs.Form.{formOf, hashOf, restoreRefusal, restoreAnswer}
-use Rattle.bits.proofs.Zeros.{clear-of}
 use Rattle.hash.proofs.Holding.{Sized, Value}
 pub use Rattle.hash_theorems.proofs.Cutting.{Piece, joined, Wholes, bits-joined, Answer, inTurn, Feeding, all-joined}
 use Rattle.hash_theorems.proofs.Held.{long, held-state, held-tail, held-legal}
@@ -31,6 +28,7 @@ use Rattle.hash.proofs.Feeding.{Whole, fed-whole, start-length}
 use Rattle.hash_theorems.proofs.Advanced.{held-sized, advanced-sized, advanced-bits, advanced-legal, advanced-append}
 use Rattle.hash_theorems.proofs.Advanced.{advanced-none, blocks-append, none-full, final-advanced, message-blocks}
 use Rattle.hash.proofs.Digests.{digest-length}
+use Rattle.hash.proofs.Ignored.{opened-refusal}
 use Rattle.hash_parts.proofs.Accepted.{form-facts}
 use Rattle.hash_theorems.proofs.Storing.{form-hash, form-accepted, read-legal, read-value, read-form}
 
@@ -101,20 +99,8 @@ module _ (m : List ℕ) (bit : Bits m) where
   all-bits : length (bitsOf (table ((length m + 7) / 8) (byteOf m))) ≡ 8 * ((length m + 7) / 8)
   all-bits = omega (arith, length-bitsOf (table ((length m + 7) / 8) (byteOf m)), all-bytes)
 
-  past-end : (i : ℕ) → length m ≤ i → getD (bitsOf (table ((length m + 7) / 8) (byteOf m))) i 0 ≡ 0
-  past-end i past = elim (decLt i (8 * ((length m + 7) / 8))) [
-    | yes below ↦ bitsOf-bytes ((length m + 7) / 8) m bit i below ∙ List·getD-eq-default m 0 {n = i} (omega arith)
-    | no over ↦ List·getD-eq-default (bitsOf (table ((length m + 7) / 8) (byteOf m))) 0 {n = i} (omega (arith, all-bits))
-  ]
-
   pub piece-whole : Whole (table ((length m + 7) / 8) (byteOf m)) (length m)
-  piece-whole =
-      record {
-        within = omega (arith, all-bytes);
-        clean =
-            rw (take-all ((length m + 7) / 8) (table ((length m + 7) / 8) (byteOf m)) (omega (arith, all-bytes)))
-            (clear-of (length m) (table ((length m + 7) / 8) (byteOf m)) past-end);
-      }
+  piece-whole = omega (arith, all-bytes)
 
   pub piece-message : message (table ((length m + 7) / 8) (byteOf m)) (length m) ≡ m
   unfolding message
@@ -126,10 +112,6 @@ module _ (m : List ℕ) (bit : Bits m) where
       getD-take (length m) bits i 0 within ∙ bitsOf-bytes ((length m + 7) / 8) m bit i (omega arith))
 
 -- A piece of no bits changes nothing, and no block is compressed.
-nothing : (piece : List ℕ) → Whole piece 0
-unfolding clear allZero bitsOf
-nothing piece = record { within = omega arith; clean = refl }
-
 no-bits : (piece : List ℕ) → message piece 0 ≡ []
 unfolding message
 no-bits piece = refl
@@ -138,7 +120,7 @@ pub feed-none : (h : Hash) → Value h → legal h ≡ true → (piece : List �
 feed-none h v good piece =
     let hash = advanced-none h (v .sized) good in
     let blocks = no-blocks h in
-    fed-whole h piece 0 good (nothing piece) (omega (arith, v .bits-fit))
+    fed-whole h piece 0 good (omega arith) (omega (arith, v .bits-fit))
     ∙ rw no-bits (λ i. record { hash = hash i; blocks = blocks i; refusal = 0 })
 
 -- The hash that is opened at one of the four widths.
@@ -273,11 +255,6 @@ unfolding holding
 cutting width known ps whole short out room =
     let all = feed-all (first width) (first-sized width known) (first-legal width known) ps whole (omega arith) in
     rw (open-known width known, all) (after-hashed width known (joined ps) (bits-joined ps) out room)
-
-pub opened-refusal : (r : ℕ) (h : Hash) → opened r h .refusal ≡ r
-unfolding opened
-opened-refusal zero h = refl
-opened-refusal (suc r) h = refl
 
 pub opened-known : (r : ℕ) (h : Hash) → r ≡ 0 → opened r h ≡ record { hash = h; refusal = 0 }
 unfolding opened

@@ -2,7 +2,6 @@
 // back with its answer; refusals are as for the open hash. It is as secret as its key.
 use hash::Hash;
 ghost use mathlib.Core.Path.{_≡_};
-ghost use mathlib.Core.Bool.{cond};
 ghost use Rattle.hash.specs.Open.{written};
 ghost use Rattle.hmac.specs.Keyed.{noHmac, openAnswer, feedAnswer, tagOf, takeRefusal, takeAnswer, checkAnswer};
 ghost use Rattle.hmac.specs.Form.{keyedForm, storeRefusal, storeAnswer, restoreAnswer};
@@ -72,7 +71,7 @@ impl Hmac {
         Opened { hmac, refusal: 0 }
     }
 
-    // Feeds the first `count` bits of a piece. Refusals 5, 2, 3, 4.
+    // Feeds the first `count` bits of a piece; what stands past them is ignored. Refusals 5, 2, 4.
     pub fn feed(mut self, piece: &[u8], count: usize) -> Fed
         ensures { λ r. ⌜ r ≡ feedAnswer self (now (piece .entry)) count ⌝ }
     {

@@ -1,28 +1,19 @@
 -- A string of bytes as a message of whole bytes: all its bits are used.
-use mathlib.Core.Bool.{true}
 use mathlib.Core.List.{List}
 use mathlib.Core.Path.{_≡_}
-use Prim.Native.Nat.{ℕ, _+_, _*_, _/_, _≤_}
+use Prim.Native.Nat.{ℕ, _+_, _*_, _≤_}
 use native.Mathlib.Omega.{arith}
 use borrow.Author.Tests.{le-leb}
-use lib.ListN.{length, take, length-take}
+use lib.ListN.{length}
 use lib.Seq.{take-all}
 use Rattle.simd.specs.Message.{bitsOf, message}
 use Rattle.laws.proofs.Bits.{length-bitsOf}
-use Rattle.bits.specs.Zero.{clear}
-use Rattle.bits.proofs.Zeros.{clear-of, bit-past}
 use Rattle.hash.specs.Open.{limit, pieceRefusal}
 use Rattle.hash.proofs.Feeding.{Whole}
 
 module _ (bytes : List ℕ) where
-  past-none : clear (8 * length bytes) (take ((8 * length bytes + 7) / 8) bytes) ≡ true
-  past-none =
-      let used = take ((8 * length bytes + 7) / 8) bytes in
-      clear-of (8 * length bytes) used
-      (λ i past. bit-past used i (omega (arith, past, length-take ((8 * length bytes + 7) / 8) bytes)))
-
   pub whole-bytes : Whole bytes (8 * length bytes)
-  whole-bytes = record { within = omega arith; clean = past-none }
+  whole-bytes = omega arith
 
   pub message-bytes : message bytes (8 * length bytes) ≡ bitsOf bytes
   unfolding message
@@ -31,4 +22,4 @@ module _ (bytes : List ℕ) where
   pub bytes-accepted : (n : ℕ) → n + 8 * length bytes ≤ limit → pieceRefusal n bytes (8 * length bytes) ≡ 0
   unfolding pieceRefusal
   bytes-accepted n short =
-      rw (le-leb (8 * length bytes) (8 * length bytes) (omega arith), past-none, le-leb (n + 8 * length bytes) limit short)
+      rw (le-leb (8 * length bytes) (8 * length bytes) (omega arith), le-leb (n + 8 * length bytes) limit short)

@@ -20,13 +20,9 @@ use Rattle.hmac.specs.declared.Opened.{Opened}
 use Rattle.hmac.specs.declared.Fed.{Fed}
 use Rattle.hmac.specs.declared.Taken.{Taken}
 use Rattle.hmac_theorems.proofs.Forms.{opened-refusal}
+use Rattle.hmac_theorems.proofs.Ignored.{fed-refusal}
 use Rattle.hmac_theorems.proofs.Tags.{further, open-known, start-bits, start-legal, after-keyed, after-tag, after-width}
 use Rattle.hmac_tag.specs.Call.{tagRefusal}
-
-fed-refusal : (r : ℕ) (k : Hmac) (m : List ℕ) → fed r k m .refusal ≡ r
-unfolding fed
-fed-refusal zero k m = refl
-fed-refusal (suc r) k m = refl
 
 fed-hmac : (r : ℕ) (k : Hmac) (m : List ℕ) → r ≡ 0 → fed r k m .hmac ≡ further k m
 unfolding fed

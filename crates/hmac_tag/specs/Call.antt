@@ -8,7 +8,7 @@ use Rattle.simd.specs.Basic.{familyOf, blockBits, digestBytes}
 use Rattle.hash.specs.Open.{first, pieceRefusal}
 use Rattle.hmac_key.specs.Refusal.{keyRefusal}
 
--- 1 for an unknown width, 4 for a key above the limit, then 2, 3 or 4 for the message as for a piece after a key block, then 6 for too short an output.
+-- 1 for an unknown width, 4 for a key above the limit, then 2 or 4 for the message as for a piece after a key block, then 6 for too short an output.
 unfoldable pub tagRefusal : ℕ → List ℕ → List ℕ → ℕ → ℕ → ℕ
 tagRefusal width key bytes count room =
     first (keyRefusal width (length key))

@@ -7,7 +7,8 @@ ghost use Rattle.hash.specs.Open.{written};
 ghost use Rattle.hmac_key.specs.Hmac.{tag as tagOfMessage};
 ghost use Rattle.hmac_tag.specs.Call.{tagRefusal};
 
-// Writes the tag of the first `count` bits of a message under a key. Answers the refusal's number, or 0. Refusals 1, 4 of the key, 2, 3, 4, 6.
+// Writes the tag of the first `count` bits of a message under a key; what stands past them is ignored. Answers the refusal's number, or 0. Refusals
+// 1, 4 of the key, 2, 4, 6.
 pub fn tag(width: u16, key: &[u8], message: &[u8], count: usize, out: &mut [u8]) -> u8
     ensures { λ r. ⌜ r ≡ tagRefusal width (now (key .entry)) (now (message .entry)) count (length (now (out .entry))) ⌝ }
     ensures { λ r. ⌜ now (out .exit)

@@ -69,7 +69,7 @@ pub fed-once : (k : Hmac) → legal k ≡ true → (piece : List ℕ) (count : �
     ≡ record { hmac = further k (message piece count); blocks = fullBlocks (k .inner) (length (message piece count)); refusal = 0 }
 unfolding feedAnswer feedRefusal fed pieceRefusal
 fed-once k good piece count whole short =
-    rw (good, le-leb count (8 * length piece) (whole .within), whole .clean, le-leb (k .inner .bits + count) limit short)
+    rw (good, le-leb count (8 * length piece) whole, le-leb (k .inner .bits + count) limit short)
 
 -- Feeding pieces one after the other is feeding their bits joined.
 record Fit (k : Hmac) (n : ℕ) : Type 0 where

@@ -4,12 +4,13 @@ ghost use mathlib.Core.Path.{_≡_};
 ghost use Prim.Native.Nat.{_+_, _*_, _/_, _≤_, _<_};
 ghost use lib.ListN.{length};
 ghost use Rattle.simd.specs.Basic.{small};
-ghost use Rattle.simd.specs.Message.{bitsOf, block as blockOf, lengthBlock};
+ghost use Rattle.simd.specs.Message.{bitsOf, message, block as blockOf, messageBlocks, lengthBlock};
 ghost use Rattle.simd.specs.Steps.{compression};
+ghost use Rattle.simd.specs.Hash.{chain};
 ghost use Rattle.transform_tables.specs.Roots.{Roots};
 ghost use Rattle.iteration.specs.Blocks.{absorbed};
 
-// Compresses block k of a byte string, read in place where it has all of its bytes.
+// Compresses block k of a byte string where it lies.
 fn compress_block(
     state: &mut [u32; 16],
     bytes: &[u8],
@@ -17,20 +18,13 @@ fn compress_block(
     roots: &[u16; 512],
     unread: &mut [[u32; 4]; 36],
 )
-    requires { ⌜ (64 * k ≤ length (now bytes)) × Roots (now roots) ⌝ }
+    requires { ⌜ (64 * k + 64 ≤ length (now bytes)) × Roots (now roots) ⌝ }
     ensures { λ _. ⌜ now (state .exit) ≡ compression small false (now (state .entry)) (blockOf small (bitsOf (now (bytes .entry))) k) ⌝ }
 {
-    let at = 64 * k;
-    if bytes.len() - at < 64 {
-        let mut block = [0u8; 64];
-        blocks::fill(bytes, at, &mut block);
-        compression::small::compress(state, &block, roots, false, unread);
-    } else {
-        compression::small::compress(state, blocks::part(bytes, at, 64), roots, false, unread);
-    }
+    compression::small::compress(state, blocks::part(bytes, 64 * k, 64), roots, false, unread);
 }
 
-// Compresses the first blocks of a byte string.
+// Compresses the first blocks of a byte string, which has all of their bytes.
 fn compress_blocks(
     state: &mut [u32; 16],
     bytes: &[u8],
@@ -38,13 +32,47 @@ fn compress_blocks(
     roots: &[u16; 512],
     unread: &mut [[u32; 4]; 36],
 )
-    requires { ⌜ (64 * count < length (now bytes) + 64) × Roots (now roots) ⌝ }
+    requires { ⌜ (64 * count ≤ length (now bytes)) × Roots (now roots) ⌝ }
     ensures { λ _. ⌜ now (state .exit) ≡ absorbed small (now (state .entry)) (now (bytes .entry)) count ⌝ }
 {
     let mut k = 0;
     while k < count {
         compress_block(state, bytes, k, roots, unread);
         k += 1;
+    }
+}
+
+// Compresses the block behind the full ones of a message of so many bits: a copy with zeros past the last bit, whatever stands there.
+fn compress_last(
+    state: &mut [u32; 16],
+    bytes: &[u8],
+    count: usize,
+    roots: &[u16; 512],
+    unread: &mut [[u32; 4]; 36],
+)
+    requires { ⌜ (count ≤ 8 * length (now bytes)) × Roots (now roots) ⌝ }
+    ensures { λ _. ⌜ now (state .exit)
+        ≡ compression small false (now (state .entry)) (blockOf small (message (now (bytes .entry)) count) (count / 512)) ⌝ }
+{
+    let mut block = [0u8; 64];
+    blocks::fill_bits(bytes, 64 * (count / 512), count % 512, &mut block);
+    compression::small::compress(state, &block, roots, false, unread);
+}
+
+// Compresses every block of a message of so many bits.
+fn compress_message(
+    state: &mut [u32; 16],
+    bytes: &[u8],
+    count: usize,
+    roots: &[u16; 512],
+    unread: &mut [[u32; 4]; 36],
+)
+    requires { ⌜ (count ≤ 8 * length (now bytes)) × Roots (now roots) ⌝ }
+    ensures { λ _. ⌜ now (state .exit) ≡ chain small (now (state .entry)) (message (now (bytes .entry)) count) (messageBlocks small count) ⌝ }
+{
+    compress_blocks(state, bytes, count / 512, roots, unread);
+    if count % 512 != 0 {
+        compress_last(state, bytes, count, roots, unread);
     }
 }
 
@@ -68,16 +96,18 @@ pub fn absorb(state: &mut [u32; 16], bytes: &[u8])
     compress_blocks(state, bytes, bytes.len() / 64, &roots, &mut unread);
 }
 
-// Compresses every block of a byte string, the last one filled with zeros, and then the length block of so many bits.
-pub fn conclude(state: &mut [u32; 16], bytes: &[u8], bits: u64)
+// Compresses every block of the message that is the first `count` bits of a byte string, the last one filled with zeros, and then the length block
+// of so many bits.
+pub fn conclude(state: &mut [u32; 16], bytes: &[u8], count: usize, bits: u64)
+    requires { ⌜ count ≤ 8 * length (now bytes) ⌝ }
     ensures { λ _. ⌜ now (state .exit)
         ≡ compression small true
-        (absorbed small (now (state .entry)) (now (bytes .entry)) ((length (now (bytes .entry)) + 63) / 64))
+        (chain small (now (state .entry)) (message (now (bytes .entry)) count) (messageBlocks small count))
         (lengthBlock small bits) ⌝ }
 {
     let mut roots = [0u16; 512];
     transform_tables::fill_roots(&mut roots);
     let mut unread = [[0u32; 4]; 36];
-    compress_blocks(state, bytes, (bytes.len() + 63) / 64, &roots, &mut unread);
+    compress_message(state, bytes, count, &roots, &mut unread);
     finish(state, bits, &roots, &mut unread);
 }

@@ -1,2 +1,3 @@
 pub mod InTurn
 pub mod Printing
+pub mod Ignored

@@ -4,7 +4,6 @@ use mathlib.Core.Path.{_≡_, refl}
 use lib.ListN.{replicate}
 use Rattle.simd.specs.Basic.{table}
 use Rattle.simd.specs.Message.{bitsOf, message}
-use Rattle.bits.specs.Zero.{allZero, clear}
 use Rattle.reader.specs.Reading.{readAt}
 use Rattle.text.specs.Text.{digits, decimal}
 use Rattle.lines.specs.Lines.{line, doneLine, refusedLine}
@@ -33,9 +32,10 @@ pub cases :
     × (listing (2 ∷ replicate 32 0) ≡ refusedLine 12 0)
     × (listing (3 ∷ replicate 33 0) ≡ refusedLine 12 0)
     × (listing (4 ∷ []) ≡ refusedLine 12 0)
-    -- no such width, and a bit past the count in the last of the 32 bytes
+    -- no such width
     × (listing (1 ∷ 255 ∷ 0 ∷ []) ≡ refusedLine 1 0)
-    × (listing (1 ∷ 0 ∷ 1 ∷ 3 ∷ 1 ∷ (replicate 31 0 ++ (1 ∷ []))) ≡ refusedLine 3 3)
-unfolding listing lines linesBy runFrom runFor readAt effect feeding clear allZero message bitsOf table doneLine refusedLine line decimal digits
+    -- all past the count of PART is ignored: OPEN 256, PART of 1 bit with all bits set, OPEN
+    × (listing (1 ∷ 0 ∷ 1 ∷ 3 ∷ 1 ∷ (replicate 32 255 ++ (1 ∷ 0 ∷ 1 ∷ []))) ≡ refusedLine 12 37)
+unfolding listing lines linesBy runFrom runFor readAt effect feeding message bitsOf table doneLine refusedLine line decimal digits
 cases =
     (refl, refl, refl, refl, refl, refl, refl, refl, refl, refl, refl, refl, refl, refl, refl, refl)

@@ -1,116 +1,147 @@
--- Laws of the run: what holds before its first turn, after one turn more, and after the last.
-use mathlib.Core.Bool.{Bool, true, false, cond}
+-- Laws of the run: one block compressed leads from the state of its number to that of the next one below; the pairs are compared before that; and
+-- the smallest number so far at which they differ is the last one found.
+use mathlib.Core.Bool.{Bool, true, false, cond, not, _&&_}
 use mathlib.Core.List.{List}
-use mathlib.Core.Path.{_≡_, refl, sym, ap, _∙_, subst}
-use Prim.Native.Nat.{ℕ, suc, _+_, _*_, _-_, _^_, _<_, _≤_}
-use native.Mathlib.Nat.{add-zero}
-use native.Mathlib.Numerals.{add-one}
+use mathlib.Core.Path.{_≡_, sym, ap, _∙_}
+use Prim.Native.Nat.{ℕ, zero, suc, _+_, _*_, _-_, _<_, _≤_}
+use native.Mathlib.Decide.{decLt}
 use native.Mathlib.Omega.{arith}
-use lib.ListN.{length, take}
-use Rattle.simd.specs.Basic.{Family, familyOf, isWidth, blockBytes, stateWords}
+use lib.ListN.{length, getD, take, List·getD-eq-default}
+use Rattle.simd.specs.Basic.{Family, small, large, familyOf, isWidth, blockBytes, stateWords, table}
 use Rattle.simd.specs.Constants.{start}
-use Rattle.simd.specs.Message.{bitsOf, block}
+use Rattle.simd.specs.Message.{bitsOf, byteOf, message, block, messageBlocks}
 use Rattle.simd.specs.Hash.{chain}
 use Rattle.simd.specs.Steps.{compression}
+use Rattle.laws.proofs.Bits.{Bits, byte-bitsOf, byte-lt}
+use Rattle.laws.proofs.Table.{length-table, getD-table, table-of}
+use Rattle.iteration.specs.Blocks.{absorbed}
 use Rattle.bits.specs.Zero.{padded}
 use Rattle.bits.proofs.Zeros.{take-padded}
-use Rattle.tail.proofs.Sizes.{words-within, chain-length}
-use Rattle.tail.proofs.Absorbing.{refit}
-use Rattle.hash.proofs.Feeding.{start-length}
+use Rattle.tail.proofs.Sizes.{bytes-within, words-within, chain-length}
+use Rattle.hash.proofs.Feeding.{length-message, bits-message, start-length}
 use Rattle.pairs.specs.Lists.{least}
-use Rattle.pairs.specs.Pairs.{unlike}
-use Rattle.pairs.proofs.ListLaws.{least-is}
-use Rattle.lockstep.specs.Lockstep.{Ready, Turn, Ahead, Passed, unlikeAt}
-use Rattle.lockstep.proofs.BlockLaws.{start-within}
+use Rattle.pairs.specs.Pairs.{stateAt, blockAt, unlike, differAt}
+use Rattle.pairs.proofs.PairLaws.{first-state, out-of-message}
+use Rattle.pairs.proofs.PaddedLaws.{equal-padded}
+use Rattle.lockstep.specs.Lockstep.{Both}
+use Rattle.lockstep.proofs.BlockLaws.{length-block}
 
--- The family's words of a state of the run.
-words-of : (width : ℕ) → isWidth width ≡ true → (m : List ℕ) (k : ℕ) {s : List ℕ} → s ≡ padded 32 (chain (familyOf width) (start width) m k)
-    → take (stateWords (familyOf width)) s ≡ chain (familyOf width) (start width) m k
-words-of width known m k e =
-    ap (take (stateWords (familyOf width))) e
-    ∙ take-padded 32 (stateWords (familyOf width)) _ (chain-length (familyOf width) (start width) m k (start-length width known))
-    (words-within (familyOf width))
+-- A number of blocks and one more fit 64 bits.
+pub few : (f : Family) (n : ℕ) → 2 * messageBlocks f n ≤ n + 1
+unfolding messageBlocks
+few small n = omega arith
+few large n = omega arith
 
-abbrev differ : ℕ → List ℕ → ℕ → List ℕ → ℕ → ℕ → Bool
-differ width a c b d = unlikeAt (familyOf width) (start width) a c b d
+-- Fewer blocks are both messages' too.
+pub fewer : {width : ℕ} {a : List ℕ} {m : ℕ} {b : List ℕ} {n j k : ℕ} → Both width a m b n k → j ≤ k → Both width a m b n j
+fewer both less =
+    record {
+      known = both .known;
+      first = (both .first .0, omega (arith, both .first .1));
+      second = (both .second .0, omega (arith, both .second .1));
+    }
 
--- One block more of the first message blocks.
-pub lead-more : (width : ℕ) → isWidth width ≡ true → (m : List ℕ) (k : ℕ) {s s′ : List ℕ} → s ≡ padded 32 (chain (familyOf width) (start width) m k)
-    → s′ ≡ padded 32 (compression (familyOf width) false (take (stateWords (familyOf width)) s) (block (familyOf width) m k))
-    → s′ ≡ padded 32 (chain (familyOf width) (start width) m (k + 1))
-unfolding chain
-lead-more width known m k before step = step ∙ rw (words-of width known m k before, add-one k)
+-- A block's own bytes, read as a byte string of one block.
+one-block : (f : Family) (s b : List ℕ) → length b ≡ blockBytes f → ((j : ℕ) → getD b j 0 < 256) → absorbed f s b 1 ≡ compression f false s b
+unfolding chain block
+one-block f s b size fits =
+    ap (compression f false s)
+    (sym (table-of 0 (blockBytes f) _ b size (λ j _. sym (ap (byteOf (bitsOf b)) (omega arith) ∙ byte-bitsOf b j (fits j)))))
 
-module _ {width : ℕ} {a : List ℕ} {c : ℕ} {b : List ℕ} {d n : ℕ} where
-  pub passed-none : {s t : List ℕ} → Ahead width s a c t b d n → Passed width a c b d n 0 s t (n + 1)
+block-bytes : (f : Family) (m : List ℕ) (k : ℕ) → Bits m → (j : ℕ) → getD (block f m k) j 0 < 256
+unfolding block
+block-bytes f m k bits j =
+    let bytes : ℕ → ℕ = λ i. byteOf m (blockBytes f * k + i) in
+    elim (decLt j (blockBytes f)) [
+      | yes low ↦ rw (getD-table (blockBytes f) bytes j 0 low) (byte-lt m (blockBytes f * k + j) bits)
+      | no past ↦
+          let none = List·getD-eq-default (table (blockBytes f) bytes) 0 {n = j} (omega (arith, past, length-table (blockBytes f) bytes)) in
+          omega (arith, none)
+    ]
+
+module _ (width : ℕ) (known : isWidth width ≡ true) where
+  abbrev f : Family
+  f = familyOf width
+
+  abbrev from : List ℕ
+  from = start width
+
+  pub length-state : (m : List ℕ) (k : ℕ) → length (stateAt f from m k) ≡ stateWords f
+  unfolding stateAt
+  length-state m k = chain-length f from m (messageBlocks f (length m) - k) (start-length width known)
+
+  module _ (bytes : List ℕ) (n : ℕ) (within : n ≤ 8 * length bytes) where
+    abbrev m : List ℕ
+    m = message bytes n
+
+    -- No block is compressed.
+    pub none-less : {number : ℕ} {s : List ℕ} → number ≡ messageBlocks f n → s ≡ padded 32 from → s ≡ padded 32 (stateAt f from m number)
+    none-less {number} all before =
+        let first : messageBlocks f (length m) ≡ number = ap (messageBlocks f) (length-message bytes n within) ∙ sym all in
+        before ∙ ap (padded 32) (sym (first-state f from m) ∙ ap (stateAt f from m) first)
+
+    -- One block compressed, from the state that goes into it.
+    pub one-less : (number : ℕ) {s x new : List ℕ} → 1 ≤ number → number ≤ messageBlocks f n
+        → s ≡ padded 32 (stateAt f from m number) → x ≡ padded 128 (blockAt f m number)
+        → new ≡ padded 32 (absorbed f (take (stateWords f) s) (take (blockBytes f) x) 1) → new ≡ padded 32 (stateAt f from m (number - 1))
+    unfolding blockAt
+    one-less zero one has before made absorbs = absurd (omega arith)
+    one-less (suc i) {s} {x} one has before made absorbs =
+        let k = messageBlocks f (length m) - suc i in
+        let words : take (stateWords f) s ≡ stateAt f from m (suc i) =
+        ap (take (stateWords f)) before ∙ take-padded 32 (stateWords f) _ (length-state m (suc i)) (words-within f) in
+        let own : take (blockBytes f) x ≡ block f m k =
+        ap (take (blockBytes f)) made ∙ take-padded 128 (blockBytes f) _ (length-block f m k) (bytes-within f) in
+        let last : i ≡ suc i - 1 = omega arith in
+        let all : messageBlocks f (length m) ≡ messageBlocks f n = ap (messageBlocks f) (length-message bytes n within) in
+        absorbs ∙ rw (words, own)
+        (ap (padded 32)
+        (one-block f (stateAt f from m (suc i)) (block f m k) (length-block f m k) (block-bytes f m k (bits-message bytes n))
+        ∙ out-of-message f from m i (omega arith) ∙ ap (stateAt f from m) last))
+
+  -- Pairs with zeros behind differ exactly where those without do.
+  pub pairs-differ : (m n : List ℕ) (number : ℕ) {s x t y : List ℕ} {r : Bool} → 1 ≤ number
+      → s ≡ padded 32 (stateAt f from m number) → x ≡ padded 128 (blockAt f m number)
+      → t ≡ padded 32 (stateAt f from n number) → y ≡ padded 128 (blockAt f n number) → r ≡ unlike s x t y → r ≡ differAt f from m n number
+  unfolding differAt unlike blockAt
+  pairs-differ m n zero one es ex et ey test = absurd (omega arith)
+  pairs-differ m n (suc i) one es ex et ey test =
+      let k = messageBlocks f (length m) - suc i in
+      let l = messageBlocks f (length n) - suc i in
+      let states = equal-padded 32 (stateWords f) (stateAt f from m (suc i)) (stateAt f from n (suc i)) (length-state m (suc i)) (length-state n (suc i))
+      (words-within f) in
+      let blocks = equal-padded 128 (blockBytes f) (block f m k) (block f n l) (length-block f m k) (length-block f n l) (bytes-within f) in
+      test ∙ rw (es, et, ex, ey) (λ i. not (states i && blocks i))
+
+-- The smallest of the numbers up to `common` so far at which p is true: none is passed, one more is, all are.
+module _ (p : ℕ → Bool) (common : ℕ) where
+  pub search-none : common + 1 ≡ least p (common - common) (suc common)
   unfolding least
-  passed-none ahead =
-      record {
-        first = ahead .first ∙ ap (λ k. padded 32 (chain (familyOf width) (start width) (bitsOf a) k)) (sym (add-zero (c - n)));
-        second = ahead .second ∙ ap (λ k. padded 32 (chain (familyOf width) (start width) (bitsOf b) k)) (sym (add-zero (d - n)));
-        number = omega arith;
-      }
+  search-none =
+      let none : common - common ≡ 0 = omega arith in
+      rw none (omega arith)
 
-  module _ {k : ℕ} {s t : List ℕ} {met : ℕ} {s₀ t₀ : List ℕ} (ahead : Ahead width s₀ a c t₀ b d n) (low : k < n)
-      (p : Passed width a c b d n k s t met) where
-    pub turn-ready : Ready (familyOf width) s a (c - n + k) t b (d - n + k)
-    turn-ready =
-        let both = ahead .both in
-        let short = ahead .lengths in
-        let from = start-length width (ahead .known) in
-        record {
-          first = refit (familyOf width) s _ (chain-length (familyOf width) (start width) (bitsOf a) (c - n + k) from) (p .first);
-          second = refit (familyOf width) t _ (chain-length (familyOf width) (start width) (bitsOf b) (d - n + k) from) (p .second);
-          first-block = start-within (familyOf width) (length a) c (c - n + k) (ahead .first-blocks) (short .0) (omega arith);
-          second-block = start-within (familyOf width) (length b) d (d - n + k) (ahead .second-blocks) (short .1) (omega arith);
-        }
+  module _ {number met : ℕ} (one : 1 ≤ number) (within : number ≤ common) (so-far : met ≡ least p (common - number) (suc number)) where
+    next : cond (p number) number met ≡ least p (common - (number - 1)) (suc (number - 1))
+    unfolding least
+    next =
+        let more : common - (number - 1) ≡ suc (common - number) = omega arith in
+        let here : suc (number - 1) ≡ number = omega arith in
+        rw (more, here) (ap (cond (p number) number) so-far)
 
-    -- Every number so far is above the next one.
-    pub passed-above : n - k < met
-    passed-above = omega (arith, p .number, least-is (differ width a c b d) k (suc n - k) .from)
+    pub search-hit : {r : Bool} {met′ : ℕ} → r ≡ p number → r ≡ true → met′ ≡ number
+        → met′ ≡ least p (common - (number - 1)) (suc (number - 1))
+    search-hit test hit found =
+        let true-there : p number ≡ true = sym test ∙ hit in
+        found ∙ rw true-there at next
 
-    module _ {s′ t′ : List ℕ} {r : Bool} (turn : Turn (familyOf width) s a (c - n + k) t b (d - n + k) s′ t′ r) where
-      turn-number : r ≡ differ width a c b d (n - k)
-      unfolding unlikeAt
-      turn-number =
-          let both = ahead .both in
-          let i : c - (n - k) ≡ c - n + k = omega arith in
-          let j : d - (n - k) ≡ d - n + k = omega arith in
-          let first = words-of width (ahead .known) (bitsOf a) (c - n + k) (p .first) in
-          let second = words-of width (ahead .known) (bitsOf b) (d - n + k) (p .second) in
-          turn .differ ∙ rw (i, j, first, second)
+    pub search-miss : {r : Bool} {met′ : ℕ} → r ≡ p number → r ≡ false → met′ ≡ met
+        → met′ ≡ least p (common - (number - 1)) (suc (number - 1))
+    search-miss test miss kept =
+        let false-there : p number ≡ false = sym test ∙ miss in
+        kept ∙ rw false-there at next
 
-      -- One turn more, at number n - k.
-      passed-more : Passed width a c b d n (k + 1) s′ t′ (cond r (n - k) met)
-      unfolding least chain
-      passed-more =
-          let i : suc (c - n + k) ≡ c - n + (k + 1) = omega arith in
-          let j : suc (d - n + k) ≡ d - n + (k + 1) = omega arith in
-          let at : n - k ≡ suc n - suc k = omega arith in
-          let next : suc n - k ≡ suc (n - k) = omega arith in
-          let rest : met ≡ least (differ width a c b d) k (suc (n - k)) = p .number ∙ ap (least (differ width a c b d) k) next in
-          let test = turn-number in
-          record {
-            first =
-                turn .first
-                ∙ ap (λ (x : List ℕ). padded 32 (compression (familyOf width) false x (block (familyOf width) (bitsOf a) (c - n + k))))
-                (words-of width (ahead .known) (bitsOf a) (c - n + k) (p .first))
-                ∙ ap (λ x. padded 32 (chain (familyOf width) (start width) (bitsOf a) x)) i;
-            second =
-                turn .second
-                ∙ ap (λ (x : List ℕ). padded 32 (compression (familyOf width) false x (block (familyOf width) (bitsOf b) (d - n + k))))
-                (words-of width (ahead .known) (bitsOf b) (d - n + k) (p .second))
-                ∙ ap (λ x. padded 32 (chain (familyOf width) (start width) (bitsOf b) x)) j;
-            number = rw (add-one k, ← at) ((λ i. cond (test i) (n - k) (rest i)));
-          }
-
-      pub passed-hit : {met′ : ℕ} → r ≡ true → met′ ≡ n - k → Passed width a c b d n (k + 1) s′ t′ met′
-      passed-hit hit e =
-          subst (λ (x : ℕ). Passed width a c b d n (k + 1) s′ t′ x) (ap (λ (q : Bool). cond q (n - k) met) hit ∙ sym e) passed-more
-
-      pub passed-miss : {met′ : ℕ} → r ≡ false → met′ ≡ met → Passed width a c b d n (k + 1) s′ t′ met′
-      passed-miss miss e =
-          subst (λ (x : ℕ). Passed width a c b d n (k + 1) s′ t′ x) (ap (λ (q : Bool). cond q (n - k) met) miss ∙ sym e) passed-more
-
-  pub passed-all : {k : ℕ} {s t : List ℕ} {met : ℕ} → k ≡ n → Passed width a c b d n k s t met → Passed width a c b d n n s t met
-  passed-all {k} {s} {t} {met} e p = subst (λ (j : ℕ). Passed width a c b d n j s t met) e p
+  pub search-all : {number met : ℕ} → number ≡ 0 → met ≡ least p (common - number) (suc number) → met ≡ least p common 1
+  search-all none so-far =
+      let all : common - 0 ≡ common = omega arith in
+      so-far ∙ rw (none, all)

@@ -1,54 +1,45 @@
 // The number of the block where two messages meet: the blocks of both are compressed side by side. Of the first and the second message, s and t
-// are the states, a and b the bytes, c and d the numbers of message blocks, m and n the lengths in bits.
+// are the states, a and b the bytes, m and n the lengths in bits. Message blocks are numbered back from the last, which is 1.
 ghost use mathlib.Core.Bool.{true, cond, _&&_};
 ghost use mathlib.Core.Path.{_≡_};
-ghost use Prim.Native.Nat.{_+_, _*_, _-_, _/_, _^_, _≤_, _<_};
+ghost use Prim.Native.Nat.{_*_, _-_, _≤_};
 ghost use lib.Dec.{eqb};
 ghost use lib.ListN.{length, take};
 ghost use Rattle.simd.specs.Basic.{familyOf, isWidth, blockBytes, stateWords};
 ghost use Rattle.simd.specs.Constants.{start};
-ghost use Rattle.simd.specs.Message.{bitsOf, block as blockOf, message};
-ghost use Rattle.simd.specs.Hash.{chain};
+ghost use Rattle.simd.specs.Message.{message, messageBlocks};
 ghost use Rattle.iteration.specs.Blocks.{absorbed};
 ghost use Rattle.bits.specs.Zero.{padded};
+ghost use Rattle.hash.specs.Open.{pieceRefusal};
 ghost use Rattle.pairs.specs.Lists.{equal, least};
-ghost use Rattle.pairs.specs.Pairs.{differAt};
+ghost use Rattle.pairs.specs.Pairs.{stateAt, blockAt, differAt};
 ghost use Rattle.pairs.specs.Compared.{common as commonNumbers};
-ghost use Rattle.pairs.specs.Used.{Used};
-ghost use Rattle.lockstep.specs.Lockstep.{Ready, Turn, Ahead, Passed};
+ghost use Rattle.lockstep.specs.Lockstep.{Both, Reached};
 use blocks::part;
 use blocks::smaller;
 use pairs::same_words;
 use pairs::unlike;
 
-// The message blocks of so many bytes, and where a block starts.
-fn block_count(width: u16, bytes: usize) -> usize
-    requires { ⌜ bytes < 2 ^ 32 ⌝ }
-    ensures { λ r. ⌜ r ≡ (bytes + (blockBytes (familyOf width) - 1)) / blockBytes (familyOf width) ⌝ }
+// The message blocks of so many bits.
+fn block_count(width: u16, count: usize) -> usize
+    ensures { λ r. ⌜ r ≡ messageBlocks (familyOf width) count ⌝ }
 {
     if width <= 256 {
-        (bytes + 63) / 64
+        count / 512 + (count % 512 + 511) / 512
     } else {
-        (bytes + 127) / 128
+        count / 1024 + (count % 1024 + 1023) / 1024
     }
 }
 
-fn block_start(width: u16, k: usize) -> usize
-    requires { ⌜ k < 2 ^ 32 ⌝ }
-    ensures { λ r. ⌜ r ≡ blockBytes (familyOf width) * k ⌝ }
+// The message block of a number, in the first of 128 bytes. It is cut where the message or the block ends, whatever stands there.
+fn block_at(width: u16, bytes: &[u8], count: usize, number: usize) -> [u8; 128]
+    requires { ⌜ (count ≤ 8 * length (now bytes)) × (1 ≤ number) × (number ≤ messageBlocks (familyOf width) count) ⌝ }
+    ensures { λ r. ⌜ r ≡ padded 128 (blockAt (familyOf width) (message (now (bytes .entry)) count) number) ⌝ }
 {
-    if width <= 256 { 64 * k } else { 128 * k }
-}
-
-// Block k of a byte string, with zeros past its end.
-fn block_at(width: u16, bytes: &[u8], k: usize) -> [u8; 128]
-    requires { ⌜ (k < 2 ^ 32) × (blockBytes (familyOf width) * k ≤ length (now bytes)) ⌝ }
-    ensures { λ r. ⌜ r ≡ padded 128 (blockOf (familyOf width) (bitsOf (now (bytes .entry))) k) ⌝ }
-{
-    let at = block_start(width, k);
-    let size = smaller(tail::block_bytes(width), bytes.len() - at);
+    let size = tail::block_bytes(width);
+    let at = size * (block_count(width, count) - number);
     let mut block = [0u8; 128];
-    blocks::fill(part(bytes, at, size), 0, &mut block);
+    blocks::fill_bits(bytes, at, smaller(8 * size, count - 8 * at), &mut block);
     block
 }
 
@@ -61,73 +52,72 @@ fn absorb_block(width: u16, state: &mut [u32; 32], block: [u8; 128])
     tail::absorb(width, state, part(&block, 0, tail::block_bytes(width)));
 }
 
-// Compresses the first blocks of a byte string, from the starting state on.
-fn lead(width: u16, state: &mut [u32; 32], bytes: &[u8], count: usize)
-    requires { ⌜ (isWidth width ≡ true) × (now state ≡ padded 32 (start width)) × (length (now bytes) < 2 ^ 32)
-        × (count ≤ (length (now bytes) + (blockBytes (familyOf width) - 1)) / blockBytes (familyOf width)) ⌝ }
-    ensures { λ _. ⌜ now (state .exit) ≡ padded 32 (chain (familyOf width) (start width) (bitsOf (now (bytes .entry))) count) ⌝ }
+// Compresses all blocks of a message but the last `rest`, from the starting state on.
+fn lead(width: u16, state: &mut [u32; 32], bytes: &[u8], count: usize, rest: usize)
+    requires { ⌜ (isWidth width ≡ true) × (now state ≡ padded 32 (start width)) × (count ≤ 8 * length (now bytes))
+        × (rest ≤ messageBlocks (familyOf width) count) ⌝ }
+    ensures { λ _. ⌜ now (state .exit) ≡ padded 32 (stateAt (familyOf width) (start width) (message (now (bytes .entry)) count) rest) ⌝ }
 {
-    let mut k = 0;
-    while k < count {
-        absorb_block(width, state, block_at(width, bytes, k));
-        k += 1;
+    let mut number = block_count(width, count);
+    while rest < number {
+        absorb_block(width, state, block_at(width, bytes, count, number));
+        number -= 1;
     }
 }
 
-// Compresses one block of each byte string, and tells whether the pairs differ.
+// Compresses the block of a number of each message, and tells whether the pairs there differ.
 fn turn(
     width: u16,
     s: &mut [u32; 32],
     a: &[u8],
-    i: usize,
+    m: usize,
     t: &mut [u32; 32],
     b: &[u8],
-    j: usize,
+    n: usize,
+    number: usize,
 ) -> bool
-    requires { ⌜ Ready (familyOf width) (now s) (now a) i (now t) (now b) j ⌝ }
-    ensures { λ r. ⌜ Turn (familyOf width) (now (s .entry)) (now (a .entry)) i (now (t .entry)) (now (b .entry)) j (now (s .exit)) (now (t .exit)) r ⌝ }
+    requires { ⌜ (1 ≤ number) × Both width (now a) m (now b) n number
+        × Reached width (message (now a) m) (message (now b) n) number (now s) (now t) ⌝ }
+    ensures { λ r. ⌜ Reached width (message (now (a .entry)) m) (message (now (b .entry)) n) (number - 1) (now (s .exit)) (now (t .exit))
+        × (r ≡ differAt (familyOf width) (start width) (message (now (a .entry)) m) (message (now (b .entry)) n) number) ⌝ }
 {
-    let x = block_at(width, a, i);
-    let y = block_at(width, b, j);
+    let x = block_at(width, a, m, number);
+    let y = block_at(width, b, n, number);
     let differ = unlike(s, &x, t, &y);
     absorb_block(width, s, x);
     absorb_block(width, t, y);
     differ
 }
 
-// Compresses the last `common` blocks of both side by side. The result is the smallest number, counted back, at which the pairs differ, and
+// Compresses the last `common` message blocks of both side by side. The result is the smallest of their numbers at which the pairs differ, and
 // common + 1 where there is none.
 fn side_by_side(
     width: u16,
     s: &mut [u32; 32],
     a: &[u8],
-    c: usize,
+    m: usize,
     t: &mut [u32; 32],
     b: &[u8],
-    d: usize,
+    n: usize,
     common: usize,
 ) -> usize
-    requires { ⌜ Ahead width (now s) (now a) c (now t) (now b) d common ⌝ }
-    ensures { λ r. ⌜ Passed width (now (a .entry)) c (now (b .entry)) d common common (now (s .exit)) (now (t .exit)) r ⌝ }
+    requires { ⌜ Both width (now a) m (now b) n common × Reached width (message (now a) m) (message (now b) n) common (now s) (now t) ⌝ }
+    ensures { λ r. ⌜ Reached width (message (now (a .entry)) m) (message (now (b .entry)) n) 0 (now (s .exit)) (now (t .exit))
+        × (r ≡ least (differAt (familyOf width) (start width) (message (now (a .entry)) m) (message (now (b .entry)) n)) common 1) ⌝ }
 {
     let mut met = common + 1;
-    let mut k = 0;
-    while k < common {
-        let i = c - common + k;
-        let j = d - common + k;
-        let number = common - k;
-        if turn(width, s, a, i, t, b, j) {
-            if number < met {
-                met = number;
-            }
+    let mut number = common;
+    while 0 < number {
+        if turn(width, s, a, m, t, b, n, number) {
+            met = number;
         }
-        k += 1;
+        number -= 1;
     }
     met
 }
 
 // The number with the length blocks, which have number 0, taken in.
-fn with_length(s: [u32; 32], m: u64, t: [u32; 32], n: u64, met: usize) -> usize
+fn with_length(s: [u32; 32], m: usize, t: [u32; 32], n: usize, met: usize) -> usize
     ensures { λ r. ⌜ r ≡ cond (equal s t && eqb m n) met 0 ⌝ }
 {
     if same_words(&s, &t) {
@@ -139,18 +129,16 @@ fn with_length(s: [u32; 32], m: u64, t: [u32; 32], n: u64, met: usize) -> usize
 }
 
 // The smallest number, counted back from the length block, at which the pairs of two messages differ.
-pub fn meeting(width: u16, a: &[u8], m: u64, b: &[u8], n: u64) -> usize
-    requires { ⌜ (isWidth width ≡ true) × Used (now a) m × Used (now b) n ⌝ }
+pub fn meeting(width: u16, a: &[u8], m: usize, b: &[u8], n: usize) -> usize
+    requires { ⌜ (isWidth width ≡ true) × (pieceRefusal 0 (now a) m ≡ 0) × (pieceRefusal 0 (now b) n ≡ 0) ⌝ }
     ensures { λ r. ⌜ r ≡ least (differAt (familyOf width) (start width) (message (now (a .entry)) m) (message (now (b .entry)) n))
         (commonNumbers (familyOf width) (message (now (a .entry)) m) (message (now (b .entry)) n)) 0 ⌝ }
 {
-    let c = block_count(width, a.len());
-    let d = block_count(width, b.len());
-    let common = smaller(c, d);
+    let common = smaller(block_count(width, m), block_count(width, n));
     let mut s = hash_parts::start_state(width);
     let mut t = hash_parts::start_state(width);
-    lead(width, &mut s, a, c - common);
-    lead(width, &mut t, b, d - common);
-    let met = side_by_side(width, &mut s, a, c, &mut t, b, d, common);
+    lead(width, &mut s, a, m, common);
+    lead(width, &mut t, b, n, common);
+    let met = side_by_side(width, &mut s, a, m, &mut t, b, n, common);
     with_length(s, m, t, n, met)
 }

@@ -1,41 +1,37 @@
--- Laws of the message that a byte string and a count of bits stand for, and of its blocks.
-use mathlib.Core.List.{List}
-use mathlib.Core.Path.{_≡_, sym, _∙_}
-use Prim.Native.Nat.{ℕ, _+_, _*_, _^_, _<_, _≤_}
-use native.Mathlib.Decide.{decLt}
+-- Laws of the message that a byte string and a count of bits stand for. What stands past the count is no part of it.
+use mathlib.Core.List.{List, [], _∷_, _++_, append-assoc}
+use mathlib.Core.Path.{_≡_, refl, sym, ap, _∙_}
+use Prim.Native.Nat.{ℕ, _+_, _*_, _-_, _/_, _%_, _^_, _≤_}
 use native.Mathlib.Omega.{arith}
-use lib.ListN.{length, getD}
-use lib.Seq.{getD-take}
-use Rattle.simd.specs.Basic.{Family, blockBytes}
-use Rattle.simd.specs.Message.{bitsOf, message, block}
-use Rattle.simd.specs.Hash.{chain}
-use Rattle.laws.proofs.Bits.{bits-bitsOf, bits-take, getD-take-past, byte-ext}
-use Rattle.laws.proofs.Chain.{chain-ext}
-use Rattle.laws.proofs.Table.{table-ext}
-use Rattle.bits.proofs.Zeros.{clear-at}
-use Rattle.hash.proofs.Feeding.{length-message}
-use Rattle.pairs.specs.Used.{Used}
+use lib.ListN.{length, take, drop, length-take, take-append-drop}
+use lib.Seq.{take-append-add}
+use Rattle.simd.specs.Basic.{table}
+use Rattle.simd.specs.Message.{bitsOf, message}
+use Rattle.laws.proofs.Bits.{length-bitsOf}
+use Rattle.hash.specs.Open.{pieceRefusal}
+use Rattle.hash.proofs.Feeding.{length-message, bits-message}
+use Rattle.hash.proofs.Refusing.{accepted}
 use Rattle.pairs.proofs.MessageLaws.{IsMessage}
 
-pub is-message : (bytes : List ℕ) (count : ℕ) → count ≤ 8 * length bytes → count < 2 ^ 32 → IsMessage (message bytes count)
+pub is-message : (bytes : List ℕ) (count : ℕ) → pieceRefusal 0 bytes count ≡ 0 → IsMessage (message bytes count)
+is-message bytes count none =
+    let piece = accepted 0 bytes count none in
+    record { bits = bits-message bytes count; short = omega (arith, piece .short, length-message bytes count (piece .within)) }
+
+bits-append : (x y : List ℕ) → bitsOf (x ++ y) ≡ bitsOf x ++ bitsOf y
+unfolding bitsOf
+bits-append [] y = refl
+bits-append (b ∷ x) y =
+    let first = table 8 (λ t. b / 2 ^ (7 - t) % 2) in
+    ap (λ (m : List ℕ). first ++ m) (bits-append x y) ∙ sym (append-assoc first (bitsOf x) (bitsOf y))
+
+-- A message is the bits of its first bytes, and the message of the bytes behind them.
+pub message-split : (bytes : List ℕ) (count at : ℕ) → count ≤ 8 * length bytes → 8 * at ≤ count
+    → message bytes count ≡ bitsOf (take at bytes) ++ message (drop at bytes) (count - 8 * at)
 unfolding message
-is-message bytes count fits short =
-    record { bits = bits-take count (bitsOf bytes) (bits-bitsOf bytes); short = omega (arith, length-message bytes count fits) }
-
--- The bits of a message are those of the bytes that it uses, zeros past the end of either.
-pub same-bits : (bytes : List ℕ) (count : ℕ) → Used bytes count → (i : ℕ) → getD (message bytes count) i 0 ≡ getD (bitsOf bytes) i 0
-unfolding message
-same-bits bytes count w i = elim (decLt i count) [
-  | yes low ↦ getD-take count (bitsOf bytes) i 0 low
-  | no past ↦ getD-take-past count (bitsOf bytes) i (omega arith) ∙ sym (clear-at count bytes (w .clean) i (omega arith))
-]
-
--- Messages with the same bits, zeros past the end included, have the same blocks and states.
-module _ (m n : List ℕ) (same : (i : ℕ) → getD m i 0 ≡ getD n i 0) where
-  pub same-blocks : (f : Family) (k : ℕ) → block f m k ≡ block f n k
-  unfolding block
-  same-blocks f k =
-      table-ext (blockBytes f) _ _ (λ j _. byte-ext m n (blockBytes f * k + j) (blockBytes f * k + j) (λ t _. same (8 * (blockBytes f * k + j) + t)))
-
-  pub same-chain : (f : Family) (from : List ℕ) (k : ℕ) → chain f from m k ≡ chain f from n k
-  same-chain f from k = chain-ext f from m n k (λ j _. byte-ext m n j j (λ t _. same (8 * j + t)))
+message-split bytes count at within before =
+    let front = bitsOf (take at bytes) in
+    let size : count ≡ length front + (count - 8 * at) = omega (arith, length-bitsOf (take at bytes), length-take at bytes) in
+    (λ i. take (size i) (bitsOf (sym (take-append-drop at bytes) i)))
+    ∙ ap (take (length front + (count - 8 * at))) (bits-append (take at bytes) (drop at bytes))
+    ∙ take-append-add front (bitsOf (drop at bytes)) (count - 8 * at)

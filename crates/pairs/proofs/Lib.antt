@@ -1,6 +1,5 @@
 pub mod ListLaws
 pub mod MessageLaws
-pub mod RefusalLaws
 pub mod ByteLaws
 pub mod PairLaws
 pub mod PaddedLaws

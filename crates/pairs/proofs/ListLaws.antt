@@ -1,9 +1,9 @@
 -- Laws of `equal` and `least`.
 use mathlib.Core.Bool.{Bool, true, false, cond, _&&_}
-use mathlib.Core.List.{List, [], _∷_}
+use mathlib.Core.List.{List, [], _∷_, _++_}
 use mathlib.Core.Path.{_≡_, refl, sym, ap, _∙_, subst}
 use Prim.Native.Nat.{ℕ, zero, suc, _+_, _<_, _≤_}
-use native.Mathlib.Decide.{ℕ-discrete, decLt}
+use native.Mathlib.Decide.{ℕ-discrete}
 use native.Mathlib.Omega.{arith}
 use borrow.Author.Tests.{eqb-true, eq-eqb}
 use lib.Dec.{eqb}
@@ -18,6 +18,12 @@ pub equal-refl : (l : List ℕ) → equal l l ≡ true
 unfolding equal
 equal-refl [] = refl
 equal-refl (x ∷ xs) = rw (eq-eqb x x refl) (equal-refl xs)
+
+-- Lists with equal fronts are equal exactly where the rests are.
+pub equal-behind : (a b c : List ℕ) → equal (a ++ b) (a ++ c) ≡ equal b c
+unfolding equal
+equal-behind [] b c = refl
+equal-behind (x ∷ xs) b c = rw (eq-eqb x x refl) (equal-behind xs b c)
 
 pub both : (p q : Bool) → p && q ≡ true → (p ≡ true) × (q ≡ true)
 both true q e = (refl, e)
@@ -81,25 +87,6 @@ unfolding least
 least-is p zero n =
     record { from = omega arith; within = omega arith; hit = λ high. absurd (omega arith); below = λ i low high. absurd (omega arith) }
 least-is p (suc k) n = least-step p k n (least p k (suc n)) (p n) refl (least-is p k (suc n))
-
--- Where p is false at all of them, it is the number after them.
-pub least-none : (p : ℕ → Bool) (k n : ℕ) → ((i : ℕ) → n ≤ i → i < n + k → p i ≡ false) → least p k n ≡ n + k
-least-none p k n h = go (decLt (least p k n) (n + k))
-  where
-    s : Least p k n (least p k n)
-    s = least-is p k n
-
-    go : Dec (least p k n < n + k) → least p k n ≡ n + k
-    go (yes less) = absurd (true≢false (sym (s .hit less) ∙ h (least p k n) (s .from) less))
-    go (no more) = omega (arith, more, s .within)
-
-pub least-ext : (p q : ℕ → Bool) (k n : ℕ) → ((i : ℕ) → n ≤ i → i < n + k → p i ≡ q i) → least p k n ≡ least q k n
-unfolding least
-least-ext p q zero n e = refl
-least-ext p q (suc k) n e =
-    let rest = least-ext p q k (suc n) (λ i low high. e i (omega arith) (omega arith)) in
-    let first = e n (omega arith) (omega arith) in
-    λ i. cond (first i) n (rest i)
 
 -- Lists of one length with equal elements are equal; those with another length, or another element at a place, are not.
 pub equal-all : (a b : List ℕ) → length a ≡ length b → ((k : ℕ) → k < length a → getD a k 0 ≡ getD b k 0) → equal a b ≡ true

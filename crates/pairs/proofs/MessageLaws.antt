@@ -32,21 +32,25 @@ byte-of-block small m j =
 byte-of-block large m j =
     sym (getD-table 128 (λ t. byteOf m (128 * (j / 128) + t)) (j % 128) 0 (omega arith) ∙ ap (byteOf m) (omega arith))
 
--- The block of a bit is one of the message's.
-block-of-bit : (f : Family) (n i : ℕ) → i < n → i / 8 / blockBytes f < messageBlocks f n
+-- The block of a byte is one of the message's.
+block-of-byte : (f : Family) (n j : ℕ) → 8 * j < n → j / blockBytes f < messageBlocks f n
 unfolding messageBlocks
-block-of-bit small n i h = omega arith
-block-of-bit large n i h = omega arith
+block-of-byte small n j h = omega arith
+block-of-byte large n j h = omega arith
 
--- Two messages of one length with the same blocks are the same.
+-- Two messages of one length with the same bytes, or the same blocks, are the same.
+pub bytes-ext : (a b : List ℕ) → Bits a → Bits b → length a ≡ length b → ((j : ℕ) → 8 * j < length a → byteOf a j ≡ byteOf b j) → a ≡ b
+bytes-ext a b wa wb e same =
+    ext-getD 0 a b e
+    (λ i low. bit-of-byte a wa i ∙ ap (λ (y : ℕ). y / 2 ^ (7 - i % 8) % 2) (same (i / 8) (omega arith)) ∙ sym (bit-of-byte b wb i))
+
 pub message-ext : (f : Family) (a b : List ℕ) → Bits a → Bits b → length a ≡ length b
     → ((k : ℕ) → k < messageBlocks f (length a) → block f a k ≡ block f b k) → a ≡ b
 message-ext f a b wa wb e same =
-    ext-getD 0 a b e
-    (λ i low.
-    let blocks = same (i / 8 / blockBytes f) (block-of-bit f (length a) i low) in
-    let bytes = byte-of-block f a (i / 8) ∙ ap (λ (l : List ℕ). getD l (i / 8 % blockBytes f) 0) blocks ∙ sym (byte-of-block f b (i / 8)) in
-    bit-of-byte a wa i ∙ ap (λ (y : ℕ). y / 2 ^ (7 - i % 8) % 2) bytes ∙ sym (bit-of-byte b wb i))
+    bytes-ext a b wa wb e
+    (λ j low.
+    let blocks = same (j / blockBytes f) (block-of-byte f (length a) j low) in
+    byte-of-block f a j ∙ ap (λ (l : List ℕ). getD l (j % blockBytes f) 0) blocks ∙ sym (byte-of-block f b j))
 
 -- Numbers with the same digit at d and the same higher digits are the same from d on.
 digit-ext : (d n k : ℕ) → n / d % 256 ≡ k / d % 256 → n / (d * 256) ≡ k / (d * 256) → n / d ≡ k / d

@@ -1,5 +1,4 @@
 -- States and blocks with zeros behind them are equal exactly where they are equal without.
-use mathlib.Core.Bool.{not, _&&_}
 use mathlib.Core.List.{List}
 use mathlib.Core.Path.{_≡_, sym, ap, _∙_}
 use Prim.Native.Nat.{ℕ, _≤_}
@@ -7,7 +6,6 @@ use lib.ListN.{length, take}
 use Rattle.bits.specs.Zero.{padded}
 use Rattle.bits.proofs.Zeros.{take-padded}
 use Rattle.pairs.specs.Lists.{equal}
-use Rattle.pairs.specs.Pairs.{unlike}
 use Rattle.pairs.proofs.ListLaws.{decide, same-equal, not-equal}
 
 pub equal-padded : (n k : ℕ) (a b : List ℕ) → length a ≡ k → length b ≡ k → k ≤ n → equal (padded n a) (padded n b) ≡ equal a b

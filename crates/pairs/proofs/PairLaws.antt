@@ -71,11 +71,6 @@ module _ (f : Family) (from a b : List ℕ) (wa : IsMessage a) (wb : IsMessage b
           let counts : messageBlocks f (length a) ≡ messageBlocks f (length b) = ap (messageBlocks f) lengths in
           ap (block f a) (sym here) ∙ pairs (suc (messageBlocks f (length a) - suc k)) (omega arith) ∙ ap (block f b) there
 
--- A message has the same pairs as itself.
-pub none-differ : (f : Family) (from m : List ℕ) (n : ℕ) → differAt f from m m n ≡ false
-unfolding differAt
-none-differ f from m n = like (stateAt f from m n) (blockAt f m n) (stateAt f from m n) (blockAt f m n) refl refl
-
 -- The test of a pair goes by the states first.
 pub unlike-states : (s x t y : List ℕ) → equal s t ≡ false → true ≡ unlike s x t y
 unfolding unlike

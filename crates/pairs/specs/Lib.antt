@@ -2,4 +2,3 @@ pub mod Lists
 pub mod Pairs
 pub mod Compared
 pub mod Answer
-pub mod Used

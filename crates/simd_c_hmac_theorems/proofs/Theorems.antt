@@ -71,7 +71,7 @@ module _ (k : Hmac) (v : Values k) (good : legal k ≡ true) (bytes : List ℕ) 
   m = message bytes count
 
   total : k .inner .bits + length m ≤ limit
-  total = omega (arith, short, length-message bytes count (whole .within))
+  total = omega (arith, short, length-message bytes count whole)
 
   next-values : Values (further k m)
   next-values = further-values k v m (bits-message bytes count) total

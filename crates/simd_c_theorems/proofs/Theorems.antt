@@ -85,7 +85,7 @@ module _ (h : Hash) (v : Value h) (good : legal h ≡ true) (bytes : List ℕ) (
   bit = bits-message bytes count
 
   total : h .bits + length m ≤ limit
-  total = omega (arith, short, length-message bytes count (whole .within))
+  total = omega (arith, short, length-message bytes count whole)
 
   next-value : Value (advanced h m)
   next-value = advanced-value h v m bit total

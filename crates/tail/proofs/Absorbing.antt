@@ -27,11 +27,11 @@ pub whole-absorbed : (s bytes : List ℕ) (k : ℕ) → length s ≡ 32 → padd
 whole-absorbed s bytes k long =
     rw (take-all 32 s (omega arith)) (padded-whole 32 (absorbed large s bytes k) (chain-length large s (bitsOf bytes) k long))
 
-pub whole-concluded : (s bytes : List ℕ) (k : ℕ) (last : List ℕ) → length s ≡ 32
-    → padded 32 (compression large true (absorbed large (take 32 s) bytes k) last) ≡ compression large true (absorbed large s bytes k) last
-whole-concluded s bytes k last long =
-    let s′ = compression large true (absorbed large s bytes k) last in
-    rw (take-all 32 s (omega arith)) (padded-whole 32 s′ (length-compression large true (absorbed large s bytes k) last))
+pub whole-concluded : (s m : List ℕ) (k : ℕ) (last : List ℕ) → length s ≡ 32
+    → padded 32 (compression large true (chain large (take 32 s) m k) last) ≡ compression large true (chain large s m k) last
+whole-concluded s m k last long =
+    let s′ = compression large true (chain large s m k) last in
+    rw (take-all 32 s (omega arith)) (padded-whole 32 s′ (length-compression large true (chain large s m k) last))
 
 -- Blocks of a message, from its block c on.
 pub absorbed-chain : (f : Family) (s m x : List ℕ) (c k : ℕ) → ((i : ℕ) → getD x i 0 < 256)

@@ -3,14 +3,14 @@
 
 ghost use mathlib.Core.Bool.{true};
 ghost use mathlib.Core.Path.{_≡_};
-ghost use Prim.Native.Nat.{_+_, _-_, _/_, _%_};
+ghost use Prim.Native.Nat.{_*_, _/_, _%_, _≤_};
 ghost use lib.ListN.{length, take};
 ghost use Rattle.simd.specs.Basic.{familyOf, blockBytes, blockBits, digestBytes, stateWords};
-ghost use Rattle.simd.specs.Message.{bitsOf, messageBlocks, lengthBlock};
+ghost use Rattle.simd.specs.Message.{message, messageBlocks, lengthBlock};
 ghost use Rattle.simd.specs.Steps.{compression};
 ghost use Rattle.simd.specs.Hash.{chain, compressions};
 ghost use Rattle.iteration.specs.Blocks.{absorbed};
-ghost use Rattle.bits.specs.Zero.{clear, padded};
+ghost use Rattle.bits.specs.Zero.{padded};
 
 // The bytes of a block, and of a digest.
 pub fn block_bytes(width: u16) -> usize
@@ -78,38 +78,38 @@ pub fn absorb(width: u16, state: &mut [u32; 32], bytes: &[u8])
     }
 }
 
-// Compresses all blocks of a byte string, the last one filled with zeros, and then the length block of so many bits.
-pub fn conclude(width: u16, state: &mut [u32; 32], bytes: &[u8], bits: u64)
-    requires { ⌜ length (now state) ≡ 32 ⌝ }
+// Compresses all blocks of the message that is the first `count` bits of a byte string, the last one filled with zeros, and then the length block
+// of so many bits.
+pub fn conclude(width: u16, state: &mut [u32; 32], bytes: &[u8], count: usize, bits: u64)
+    requires { ⌜ (length (now state) ≡ 32) × (count ≤ 8 * length (now bytes)) ⌝ }
     ensures { λ _. ⌜ now (state .exit)
         ≡ padded 32 (compression (familyOf width) true
-        (absorbed (familyOf width) (take (stateWords (familyOf width)) (now (state .entry))) (now (bytes .entry))
-        ((length (now (bytes .entry)) + (blockBytes (familyOf width) - 1)) / blockBytes (familyOf width)))
+        (chain (familyOf width) (take (stateWords (familyOf width)) (now (state .entry))) (message (now (bytes .entry)) count)
+        (messageBlocks (familyOf width) count))
         (lengthBlock (familyOf width) bits)) ⌝ }
 {
     if width <= 256 {
         let mut small = narrow(*state);
-        iteration::small::conclude(&mut small, bytes, bits);
+        iteration::small::conclude(&mut small, bytes, count, bits);
         let wide = widen(small);
         *state = wide;
     } else {
-        iteration::large::conclude(state, bytes, bits);
+        iteration::large::conclude(state, bytes, count, bits);
     }
 }
 
 // Compresses the tail, filled with zeros, where it holds a bit, and then the length block. Gives the number of compressions.
 pub fn close(width: u16, bits: u64, state: &mut [u32; 32], tail: &[u8]) -> usize
-    requires { ⌜ (length (now state) ≡ 32) × (length (now tail) ≡ 128) × (clear (bits % blockBits (familyOf width)) (now tail) ≡ true) ⌝ }
+    requires { ⌜ (length (now state) ≡ 32) × (length (now tail) ≡ 128) ⌝ }
     ensures { λ r. ⌜ (now (state .exit)
         ≡ padded 32 (compression (familyOf width) true
         (chain (familyOf width) (take (stateWords (familyOf width)) (now (state .entry)))
-        (take (bits % blockBits (familyOf width)) (bitsOf (now (tail .entry))))
+        (message (now (tail .entry)) (bits % blockBits (familyOf width)))
         (messageBlocks (familyOf width) (bits % blockBits (familyOf width))))
         (lengthBlock (familyOf width) bits)))
         × (r ≡ compressions (familyOf width) (bits % blockBits (familyOf width))) ⌝ }
 {
     let used = used_bits(width, bits);
-    let bytes = bits::bytes_of_bits(used);
-    conclude(width, state, &tail[0..bytes], bits);
+    conclude(width, state, tail, used, bits);
     if used == 0 { 1 } else { 2 }
 }

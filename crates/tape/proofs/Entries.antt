@@ -8,7 +8,6 @@ use lib.Dec.{leb}
 use lib.ListN.{length}
 use Rattle.simd.specs.Basic.{isWidth}
 use Rattle.simd.specs.Message.{bitsOf, message}
-use Rattle.bits.specs.Zero.{clear}
 use Rattle.hash.specs.Open.{limit}
 use Rattle.reader.specs.declared.Command.{Command}
 use Rattle.reader.specs.declared.Command.the-variants.{Open, Full, Part, Take, Stop}
@@ -49,7 +48,7 @@ good tape closed Stop known = tt
 good tape (opened v m) (Open w) known = tt
 good tape (opened w m) (Full p) known = good-feeding w m (bitsOf (piece tape p)) known
 good tape (opened w m) (Part n p) known =
-    good-cond (clear n (piece tape p)) _ _ (λ _. good-feeding w m (message (piece tape p) n) known) tt
+    good-feeding w m (message (piece tape p) n) known
 good tape (opened w m) Take known = known
 good tape (opened w m) Stop known = tt
 
@@ -78,7 +77,7 @@ single tape closed Stop = tt
 single tape (opened v m) (Open w) = tt
 single tape (opened w m) (Full p) = single-feeding (Full p) w m (bitsOf (piece tape p))
 single tape (opened w m) (Part n p) =
-    single-cond (Part n p) (clear n (piece tape p)) _ _ (single-feeding (Part n p) w m (message (piece tape p) n)) tt
+    single-feeding (Part n p) w m (message (piece tape p) n)
 single tape (opened w m) Take = refl
 single tape (opened w m) Stop = tt
 

@@ -10,11 +10,10 @@ use borrow.Author.Tests.{le-leb, lt-leb, eqb-false}
 use types.Run.{OneOf}
 use denote.Enum.Declared.{tagOf}
 use lib.Dec.{leb}
-use lib.ListN.{length, take}
+use lib.ListN.{length}
 use Rattle.simd.specs.Basic.{isWidth, digestBytes}
 use Rattle.simd.specs.Message.{bitsOf, message}
 use Rattle.simd.specs.Hash.{digest}
-use Rattle.bits.specs.Zero.{clear}
 use Rattle.hash.specs.Open.{limit}
 use Rattle.hash.specs.declared.Hash.{Hash}
 use Rattle.text.specs.Text.{over}
@@ -62,7 +61,7 @@ moves tape closed (Full p) k = tt
 moves tape (opened w m) (Full p) k = moves-feeding w m (bitsOf (piece tape p))
 moves tape closed (Part n p) k = tt
 moves tape (opened w m) (Part n p) k =
-    moves-cond (clear n (piece tape p)) _ _ (moves-feeding w m (message (piece tape p) n)) tt
+    moves-feeding w m (message (piece tape p) n)
 moves tape h Take k = absurd (other 3 (eqb-false 3 0 refl) (eqb-false 3 1 refl) (eqb-false 3 2 refl) k)
 moves tape h Stop k = absurd (other 4 (eqb-false 4 0 refl) (eqb-false 4 1 refl) (eqb-false 4 2 refl) k)
 

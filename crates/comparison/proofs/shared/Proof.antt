@@ -1,5 +1,5 @@
--- The loop's invariant: the blocks passed are equal in both.
-use mathlib.Core.Path.{_≡_, refl, sym, _∙_}
+-- The loop's invariant: the blocks passed are full and equal in both.
+use mathlib.Core.Path.{refl, sym, _∙_}
 use Prim.Native.Nat.{_-_, _≤_, zero-le}
 use native.Mathlib.Omega.{arith}
 use borrow.Author.Needs.{needs}
@@ -12,10 +12,10 @@ use Rattle.comparison.proofs.shared.Statement.{statement}
 use Rattle.comparison.proofs.shared.Tie as tie
 
 abbrev Inv-loop : tie.InvT-loop
-Inv-loop width x y size end at₀ at = (at ≤ end) × Shared (familyOf width) x y at
+Inv-loop width x m y n size end at₀ at = (at ≤ end) × Shared (familyOf width) x m y n at
 
 abbrev μ-loop : tie.MeasureT-loop
-μ-loop width x y size end at₀ at = end - at
+μ-loop width x m y n size end at₀ at = end - at
 
 abbrev begin : tie.At-loop Inv-loop μ-loop → tie.Start Inv-loop μ-loop
 begin c = c .before .before .before .before .before
@@ -31,6 +31,7 @@ same-block-requires c κs =
     let p = begin at .args in
     let low = within .loop-test .taken in
     let ends = at .before .smaller .ensures in
+    let pre = begin at .pre in
     part-size (at .loop .at) size (p .x .now) (omega arith) ∙ sym (part-size (at .loop .at) size (p .y .now) (omega arith))
 
 returns : tie.Need-returns Inv-loop μ-loop

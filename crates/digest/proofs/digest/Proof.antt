@@ -20,7 +20,7 @@ abbrev start : tie.Else1 → tie.Start
 start c = c .before .before .before .before
 
 abbrev accepted-before : tie.After-conclude → tie.Else1
-accepted-before c = c .before .before .before .before .before
+accepted-before c = c .before .before .before
 
 good : (c : tie.Else1) → let a = start c .args in Accepted (a .width) (a .message .now) (a .count) (length (a .out .now))
 good c =
@@ -33,8 +33,8 @@ returns c =
     let refused = c .before .refusal in
     (refused .ensures, sym (written-refused _ _ (c .before .before .before .before .args .out .now) (λ e. c .if1 .taken (refused .ensures ∙ e))))
 
-part-conclude-end : tie.Need-part-conclude-end
-part-conclude-end c = omega (arith, good (c .before .before .before) .whole .within, c .before .bytes-of-bits .ensures)
+conclude-requires : tie.Need-conclude-requires
+conclude-requires c κs = (search needs, omega (arith, good (c .before .before) .whole .within))
 
 part-write-words-end : tie.Need-part-write-words-end
 part-write-words-end c = omega (arith, good (accepted-before (c .before)) .enough, c .digest-bytes .ensures)
@@ -62,12 +62,10 @@ returns-2 c =
     let l = d .before in
     let e = accepted-before l in
     let a = start e .args in
-    let bytes = l .before .before .before .bytes-of-bits in
-    let begun = l .before .before .before .before .start-state in
+    let begun = l .before .before .start-state in
     let none = sym (e .if1 .left) ∙ e .before .refusal .ensures in (
       none,
-      digest-written (a .width) (a .message .now) (a .count) (length (a .out .now)) (good e)
-          (λ i. e .before .before .before .shared-slice-known .given i .fits) (bytes .result) (bytes .ensures) (d .digest-bytes .result)
+      digest-written (a .width) (a .message .now) (a .count) (length (a .out .now)) (good e) (d .digest-bytes .result)
           (d .digest-bytes .ensures) (a .out .now) (begun .result) (l .conclude .last .1 .0) (w .last .0) refl (begun .ensures) (l .conclude .ensures)
           (w .ensures)
           ∙ ap (λ (r : ℕ). written r (digest (a .width) (message (a .message .now) (a .count))) (a .out .now)) none,
@@ -76,6 +74,5 @@ returns-2 c =
 pub digest-spec : {M : Type 1} → statement M
 digest-spec =
     tie.close
-    (tie.spec (λ c κs. search needs) returns (λ c κs. search needs) (λ c κs. search needs) (λ c. search needs) (λ c. search needs) part-conclude-end
-    (λ c κs. search needs) (λ c κs. search needs) (λ c. search needs) (λ c. search needs) part-write-words-end write-words-requires
-    (λ c. search needs) returns-2)
+    (tie.spec (λ c κs. search needs) returns (λ c κs. search needs) conclude-requires (λ c κs. search needs) (λ c. search needs) (λ c. search needs)
+    part-write-words-end write-words-requires (λ c. search needs) returns-2)

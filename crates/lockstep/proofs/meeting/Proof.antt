@@ -1,58 +1,65 @@
 -- The run starts from the states after the blocks that only the longer message has.
+use mathlib.Core.Path.{_≡_, _∙_}
+use Prim.Native.Nat.{min}
 use native.Mathlib.Omega.{arith}
 use borrow.Author.Needs.{needs}
+use Rattle.simd.specs.Basic.{familyOf}
+use Rattle.simd.specs.Message.{messageBlocks}
+use Rattle.hash.proofs.Refusing.{accepted}
 use Rattle.lockstep.proofs.NumberLaws.{meeting-number}
 use Rattle.lockstep.proofs.meeting.Statement.{statement}
 use Rattle.lockstep.proofs.meeting.Tie as tie
 
-abbrev counted : tie.After-lead → tie.After-smaller
-counted c = c .before .before .before .before
-
 abbrev begin : tie.After-smaller → tie.Start
 begin c = c .before .before .before .before .before
 
+abbrev counted : tie.After-lead2 → tie.After-smaller
+counted c = c .before .before .before .before .before .before
+
+-- The blocks that both messages have.
+common : (c : tie.After-smaller) → let p = begin c .args in
+    c .smaller .result ≡ min (messageBlocks (familyOf (p .width)) (p .m)) (messageBlocks (familyOf (p .width)) (p .n))
+common c = c .smaller .ensures ∙ (λ i. min (c .before .before .block-count .ensures i) (c .before .block-count2 .ensures i))
+
 lead-requires : tie.Need-lead-requires
 lead-requires c κs =
-    let count = c .before .before .before in
+    let states = c .before in
+    let count = states .before .before in
     let pre = begin count .pre in
-    (pre .0, c .before .before .start-state .ensures, omega (arith, pre .1 .size, pre .1 .short), omega (arith, count .before .before .block-count .ensures))
+    (pre .0, states .before .start-state .ensures, accepted 0 _ _ (pre .1) .within, omega (arith, common count))
 
 lead-requires-2 : tie.Need-lead-requires-2
 lead-requires-2 c κs =
-    let count = counted (c .before) in
+    let states = c .before .before .before in
+    let count = states .before .before in
     let pre = begin count .pre in
-    (pre .0, c .before .before .before .start-state2 .ensures, omega (arith, pre .2 .size, pre .2 .short), omega (arith, count .before .block-count2 .ensures))
+    (pre .0, states .start-state2 .ensures, accepted 0 _ _ (pre .2) .within, omega (arith, common count))
 
 side-by-side-requires : tie.Need-side-by-side-requires
 side-by-side-requires c κs =
     let second = c .before .before in
     let first = second .before .before in
-    let count = counted first in
-    let pre = begin count .pre in
-    let fewer = count .smaller .ensures in
-    record {
-      known = pre .0;
-      first = first .lead .ensures;
-      second = second .lead2 .ensures;
-      first-blocks = count .before .before .block-count .ensures;
-      second-blocks = count .before .block-count2 .ensures;
-      lengths = (omega (arith, pre .1 .size, pre .1 .short), omega (arith, pre .2 .size, pre .2 .short));
-      both = (omega arith, omega arith);
-    }
+    let count = counted second in
+    let pre = begin count .pre in (
+      record {
+        known = pre .0;
+        first = (accepted 0 _ _ (pre .1) .within, omega (arith, common count));
+        second = (accepted 0 _ _ (pre .2) .within, omega (arith, common count));
+      },
+      record { first = first .lead .ensures; second = second .lead2 .ensures },
+    )
 
 returns : tie.Need-returns
 returns c =
     let run = c .before in
-    let first = run .before .before .before .before .before in
-    let count = counted first in
-    let start = begin count in
-    let p = start .args in
-    meeting-number (p .width) (p .a .now) (p .m) (p .b .now) (p .n) (start .pre .0) (start .pre .1) (start .pre .2)
-    (count .before .before .block-count .ensures) (count .before .block-count2 .ensures) (count .smaller .ensures) (run .side-by-side .ensures)
-    (c .with-length .ensures)
+    let count = counted (run .before .before .before) in
+    let s = begin count in
+    let p = s .args in
+    meeting-number (p .width) (p .a .now) (p .m) (p .b .now) (p .n) (s .pre .0) (s .pre .1) (s .pre .2) (common count)
+    (run .side-by-side .ensures .0) (run .side-by-side .ensures .1) (c .with-length .ensures)
 
 pub meeting-spec : {M : Type 1} → statement M
 meeting-spec =
     tie.close
-    (tie.spec (λ c κs. search needs) (λ c κs. search needs) (λ c κs. search needs) (λ c κs. search needs) (λ c κs. search needs) (λ c. search needs)
-    lead-requires (λ c. search needs) lead-requires-2 side-by-side-requires (λ c κs. search needs) returns)
+    (tie.spec (λ c κs. search needs) (λ c κs. search needs) (λ c κs. search needs) (λ c κs. search needs) (λ c κs. search needs)
+    lead-requires lead-requires-2 side-by-side-requires (λ c κs. search needs) returns)

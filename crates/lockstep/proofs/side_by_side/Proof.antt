@@ -1,61 +1,61 @@
--- The loop's invariant: what holds after the turns passed. Every number so far is above the next one.
+-- The loop's invariant: the states go into the blocks of the number, and of the numbers above it the smallest at which the pairs differ is kept.
 use mathlib.Core.Logic.{⊎-elim}
 use mathlib.Core.Path.{_≡_}
-use Prim.Native.Nat.{ℕ, _+_, _-_, _/_, _^_, _<_, _≤_, zero-le}
+use Prim.Native.Nat.{suc, _-_, _≤_}
 use native.Mathlib.Omega.{arith}
 use borrow.Author.Needs.{needs}
-use Rattle.simd.specs.Basic.{Family, small, large, familyOf, blockBytes}
-use Rattle.lockstep.specs.Lockstep.{Passed}
-use Rattle.lockstep.proofs.RunLaws.{passed-none, turn-ready, passed-hit, passed-miss, passed-above, passed-all}
+use Rattle.simd.specs.Basic.{familyOf}
+use Rattle.simd.specs.Constants.{start}
+use Rattle.simd.specs.Message.{message}
+use Rattle.pairs.specs.Lists.{least}
+use Rattle.pairs.specs.Pairs.{differAt}
+use Rattle.lockstep.specs.Lockstep.{Reached}
+use Rattle.lockstep.proofs.RunLaws.{few, fewer, search-none, search-hit, search-miss, search-all}
 use Rattle.lockstep.proofs.side_by_side.Statement.{statement}
 use Rattle.lockstep.proofs.side_by_side.Tie as tie
 
 abbrev Inv-loop : tie.InvT-loop
-Inv-loop width s₀ a c t₀ b d common met₀ k₀ s t met k = (k ≤ common) × Passed width a c b d common k s t met
+Inv-loop width s₀ a m t₀ b n common met₀ number₀ s t met number =
+    (number ≤ common) × Reached width (message a m) (message b n) number s t
+    × (met ≡ least (differAt (familyOf width) (start width) (message a m) (message b n)) (common - number) (suc number))
 
 abbrev μ-loop : tie.MeasureT-loop
-μ-loop width s₀ a c t₀ b d common met₀ k₀ s t met k = common - k
+μ-loop width s₀ a m t₀ b n common met₀ number₀ s t met number = number
 
--- The number of blocks fits.
-count-short : (f : Family) (l c : ℕ) → c ≡ (l + (blockBytes f - 1)) / blockBytes f → l < 2 ^ 32 → c < 2 ^ 32
-count-short small l c e short = omega arith
-count-short large l c e short = omega arith
+abbrev begin : tie.At-loop Inv-loop μ-loop → tie.Start Inv-loop μ-loop
+begin c = c .before .before .before
 
 add-met : tie.Need-add-met Inv-loop μ-loop
 add-met c =
-    let ahead = c .before .before .pre in
-    let both = ahead .both in
-    let fits = count-short (familyOf (c .before .before .args .width)) _ _ (ahead .first-blocks) (ahead .lengths .0) in
-    omega arith
+    let s = c .before .before in
+    omega (arith, few (familyOf (s .args .width)) (s .args .m), s .pre .0 .first .1)
 
 loop-holds : tie.Need-loop-holds Inv-loop μ-loop
-loop-holds c = (zero-le, passed-none (c .before .before .pre))
+loop-holds c = (omega arith, c .before .before .pre .1, search-none _ _)
 
 turn-requires : tie.Need-turn-requires Inv-loop μ-loop
 turn-requires c κs =
-    let within = c .before .before in
-    let at = within .before in
-    turn-ready (at .before .before .before .pre) (within .loop-test .taken) (at .loop .inv .1)
+    let at = c .before .before .before in
+    (omega arith, fewer (begin at .pre .0) (at .loop .inv .0), at .loop .inv .1)
 
 loop-again : tie.Need-loop-again Inv-loop μ-loop
 loop-again c =
     let turned = c .before .turn .ensures in
-    let within = c .before .before .before .before in
-    let low = within .loop-test .taken in
-    let at = within .before in
-    let ahead = at .before .before .before .pre in
-    let inv = at .loop .inv .1 in (
-      search needs,
-      ⊎-elim (λ w. passed-hit ahead low inv turned (w .0 .taken) (w .2))
-          (⊎-elim (λ w. absurd (omega (arith, passed-above ahead low inv, w .1 .left))) (λ w. passed-miss ahead low inv turned (w .0 .left) (w .1)))
-          (c .if1 .came),
+    let at = c .before .before .before .before .before in
+    let inv = at .loop .inv in (
+      omega (arith, inv .0),
+      turned .0,
+      ⊎-elim (λ w. search-hit _ _ (omega arith) (inv .0) (inv .2) (turned .1) (w .0 .taken) (w .1))
+          (λ w. search-miss _ _ (omega arith) (inv .0) (inv .2) (turned .1) (w .0 .left) (w .1)) (c .if1 .came),
     )
 
 returns : tie.Need-returns Inv-loop μ-loop
-returns c = passed-all (omega arith) (c .before .loop .inv .1)
+returns c =
+    let at = c .before in
+    let none : at .loop .number ≡ 0 = omega arith in
+    (rw none at (at .loop .inv .1), search-all _ _ none (at .loop .inv .2))
 
 pub side-by-side-spec : {M : Type 1} → statement M
 side-by-side-spec =
     tie.close
-    (tie.spec Inv-loop μ-loop add-met loop-holds (λ c. search needs) (λ c. search needs) (λ c. search needs) (λ c. search needs) (λ c. search needs)
-    turn-requires (λ c. search needs) (λ c. search needs) loop-again returns)
+    (tie.spec Inv-loop μ-loop add-met loop-holds turn-requires (λ c. search needs) (λ c. search needs) loop-again returns)

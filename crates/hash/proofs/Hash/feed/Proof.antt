@@ -66,7 +66,7 @@ returns-2 c =
     let call = c .before .advance in
     feed-answered (a .self) (a .piece .now) (a .count) (accepts e) (b .result) (b .ensures) (u .used-bits .result) (e .before .feed-refusal .result)
     (u .used-bits .ensures) (refused (e .before)) (e .if1 .left) (call .last .1 .1 .0) (call .last .1 .1 .1 .0) (call .result)
-    (call .ensures .0) (call .ensures .1) (call .ensures .2)
+    (call .ensures)
 
 pub feed-spec : {M : Type 1} → statement M
 feed-spec =

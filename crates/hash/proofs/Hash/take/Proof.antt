@@ -8,7 +8,7 @@ use lib.ListN.{length, length-take}
 use Rattle.simd.specs.Basic.{digestBytes}
 use Rattle.tail.proofs.Sizes.{words-within}
 use Rattle.hash.specs.Open.{family, legal, takeRefusal}
-use Rattle.hash.proofs.Holding.{legal-width, legal-tail}
+use Rattle.hash.proofs.Holding.{legal-width}
 use Rattle.hash.proofs.Digests.{digest-room, digest-words}
 use Rattle.hash.proofs.Answers.{take-refusal, take-refused, take-facts, take-answered}
 use Rattle.hash.proofs.Hash.take.Statement.{statement}
@@ -41,10 +41,7 @@ returns c =
     take-refused (a .self) (a .out .now) (c .before .output-refusal .result) (refused (c .before)) (c .if1 .taken)
 
 close-requires : tie.Need-close-requires
-close-requires c κs =
-    let e = c .before .before in
-    let s = start (e .before) in
-    (lengths s .0, lengths s .1, legal-tail (s .args .self) (accepted e .0))
+close-requires c κs = lengths (start (c .before .before .before))
 
 part-write-words-end : tie.Need-part-write-words-end
 part-write-words-end c =

@@ -1,14 +1,19 @@
 -- The three tests are those of the definition, in its order.
 use mathlib.Core.Path.{sym, _∙_}
-use borrow.Author.Needs.{needs}
+use Rattle.hash.proofs.Refusing.{accepted}
 use Rattle.pairs.proofs.AnswerLaws.{compared-same, compared-meet, compared-apart}
-use Rattle.comparison.proofs.compare_used.Statement.{statement}
-use Rattle.comparison.proofs.compare_used.Tie as tie
+use Rattle.comparison.proofs.compare_accepted.Statement.{statement}
+use Rattle.comparison.proofs.compare_accepted.Tie as tie
+
+shared-requires : tie.Need-shared-requires
+shared-requires c κs =
+    let pre = c .before .before .pre in
+    (accepted 0 _ _ (pre .1) .within, accepted 0 _ _ (pre .2) .within)
 
 same-message-requires : tie.Need-same-message-requires
 same-message-requires c κs =
     let pre = c .before .before .before .pre in
-    (pre .1, pre .2, c .shared .ensures)
+    (accepted 0 _ _ (pre .1) .within, accepted 0 _ _ (pre .2) .within, c .shared .ensures)
 
 returns : tie.Need-returns
 returns c =
@@ -19,7 +24,7 @@ meet-requires : tie.Need-meet-requires
 meet-requires c κs =
     let shared = c .before .before in
     let pre = shared .before .before .before .pre in
-    (pre .0, pre .1, pre .2, shared .shared .ensures)
+    (pre .0, accepted 0 _ _ (pre .1) .within, accepted 0 _ _ (pre .2) .within, shared .shared .ensures)
 
 meeting-requires : tie.Need-meeting-requires
 meeting-requires c κs =
@@ -41,6 +46,6 @@ returns-3 c =
     let p = test .before .before .before .before .before .args in
     compared-apart (p .width) _ _ (sym (test .before .same-message .ensures) ∙ test .if1 .left) (sym (met .meet .ensures) ∙ c .if2 .left)
 
-pub compare-used-spec : {M : Type 1} → statement M
-compare-used-spec =
-    tie.close (tie.spec (λ c κs. search needs) same-message-requires returns meet-requires meeting-requires returns-2 returns-3)
+pub compare-accepted-spec : {M : Type 1} → statement M
+compare-accepted-spec =
+    tie.close (tie.spec shared-requires same-message-requires returns meet-requires meeting-requires returns-2 returns-3)
