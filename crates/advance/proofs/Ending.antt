@@ -1,10 +1,11 @@
 -- What stands past the last bit of a piece: no block that its bits make full has any of it, and the tail is cut before it.
 use mathlib.Core.Bool.{true}
 use mathlib.Core.List.{List, _++_, append-assoc}
+use mathlib.Core.Logic.{_≢_}
 use mathlib.Core.Path.{_≡_, sym, ap, _∙_}
 use Prim.Native.Nat.{ℕ, _+_, _*_, _/_, _%_, _<_}
 use native.Mathlib.Omega.{arith}
-use native.Mathlib.Decide.{decLt}
+use native.Mathlib.Decide.{decLt, ℕ-discrete}
 use lib.ListN.{length, getD, take, drop, length-append, length-take, length-drop, take-append-drop, List·getD-append, List·getD-eq-default}
 use lib.Seq.{take-all, getD-take, getD-drop}
 use Rattle.simd.specs.Basic.{Family, small, large, familyOf, blockBits, table}
@@ -22,6 +23,14 @@ use Rattle.advance.proofs.Advancing.{block-small}
 full-and-left : (f : Family) (n : ℕ) → blockBits f * (n / blockBits f) + n % blockBits f ≡ n
 full-and-left small n = omega arith
 full-and-left large n = omega arith
+
+pub none-full : (f : Family) (n : ℕ) → n / blockBits f ≡ 0 → n ≡ n % blockBits f
+none-full small n none = omega arith
+none-full large n none = omega arith
+
+pub numbered : {width used : ℕ} {state tail src : List ℕ} {n k : ℕ} {state′ tail′ : List ℕ} {r r′ : ℕ} → r ≡ r′
+    → Joins width used state tail src n k state′ tail′ r → Joins width used state tail src n k state′ tail′ r′
+numbered same joins = record { compressed = joins .compressed; left = joins .left; number = sym same ∙ joins .number }
 
 module _ {width used : ℕ} {state tail src : List ℕ} {count : ℕ} (ready : Ready width used state tail src count) where
   abbrev f : Family
@@ -81,7 +90,7 @@ module _ {width used : ℕ} {state tail src : List ℕ} {count : ℕ} (ready : R
       ∙ chain-append f s fed (drop count (bitsOf src)) blocks (omega (arith, full-and-left f (used + count), fed-size))
 
   -- Whole bytes: nothing stands past them.
-  pub whole-bytes : {state′ tail′ : List ℕ} {r : ℕ} → count % 8 ≡ 0
+  whole-bytes : {state′ tail′ : List ℕ} {r : ℕ} → count % 8 ≡ 0
       → Joins width used state tail src (8 * length src) blocks state′ tail′ r → Joins width used state tail src count blocks state′ tail′ r
   whole-bytes {state′} {tail′} {r} even joins =
       let size : 8 * length src ≡ count = omega (arith, ready .source) in
@@ -118,7 +127,7 @@ module _ {width used : ℕ} {state tail src : List ℕ} {count : ℕ} (ready : R
         ∙ (λ i. table (size i) (byteOf (message tail′ (same i))))
         ∙ table-ext 128 _ _ (λ j _. byte-ext (message tail′ left) (drop (blockBits f * blocks) fed) j j (λ t _. left-bit (8 * j + t)))
 
-  pub cut-off : {state′ tail′ tail″ : List ℕ} {r : ℕ} → Joins width used state tail src (8 * length src) blocks state′ tail′ r
+  cut-off : {state′ tail′ tail″ : List ℕ} {r : ℕ} → Joins width used state tail src (8 * length src) blocks state′ tail′ r
       → (n : ℕ) → n ≡ left → tail″ ≡ table (length tail′) (byteOf (message tail′ n)) → Joins width used state tail src count blocks state′ tail″ r
   cut-off {state′} {tail′} {tail″} {r} joins n same cut =
       record {
@@ -126,6 +135,17 @@ module _ {width used : ℕ} {state tail src : List ℕ} {count : ℕ} (ready : R
         left = tail-cut tail′ (joins .left) tail″ n same cut;
         number = joins .number;
       }
+
+  -- Either way.
+  pub trimmed : {state′ tail′ tail″ : List ℕ} {r : ℕ} → Joins width used state tail src (8 * length src) blocks state′ tail′ r
+      → (n : ℕ) → n ≡ left → (count % 8 ≡ 0 → tail″ ≡ tail′) → (count % 8 ≢ 0 → tail″ ≡ table (length tail′) (byteOf (message tail′ n)))
+      → Joins width used state tail src count blocks state′ tail″ r
+  trimmed joins n same even odd = elim (ℕ-discrete (count % 8) 0) [
+    | yes whole ↦
+        let kept = whole-bytes whole joins in
+        record { compressed = kept .compressed; left = even whole ∙ kept .left; number = kept .number }
+    | no part ↦ cut-off joins n same (odd part)
+  ]
 
   -- What is behind the byte after the last bit is 0.
   pub cut-rest : {state′ tail′ : List ℕ} {r : ℕ} → Joins width used state tail src (8 * length src) blocks state′ tail′ r

@@ -1,9 +1,13 @@
 // The bits of a piece put behind those of a tail that may end within a byte, and each block that becomes full compressed.
 
+ghost use mathlib.Core.Bool.{true};
+ghost use mathlib.Core.Logic.{_≢_};
 ghost use mathlib.Core.Path.{_≡_};
-ghost use Prim.Native.Nat.{_+_, _*_, _/_, _^_, _<_};
-ghost use lib.ListN.{length};
-ghost use Rattle.simd.specs.Basic.{familyOf, blockBytes, blockBits};
+ghost use Prim.Native.Nat.{_+_, _*_, _/_, _%_, _^_, _<_};
+ghost use lib.ListN.{length, drop};
+ghost use Rattle.simd.specs.Basic.{familyOf, blockBytes, blockBits, table};
+ghost use Rattle.simd.specs.Message.{byteOf, message};
+ghost use Rattle.bits.specs.Zero.{allZero};
 ghost use Rattle.advance.specs.Joined.{Ready, Joins};
 
 // The full blocks of a number of bits, and the bytes of a number of blocks.
@@ -59,6 +63,17 @@ fn join(
     blocks
 }
 
+// Makes all bits of the tail from a place on 0, after a piece of so many bits that ends within a byte. Whole bytes have nothing past them.
+fn trim(tail: &mut [u8], count: usize, from: usize)
+    requires { ⌜ (from / 8 < length (now tail)) × (allZero (drop (from / 8 + 2) (now tail)) ≡ true) ⌝ }
+    ensures { λ _. ⌜ (count % 8 ≡ 0 → now (tail .exit) ≡ now (tail .entry))
+        × (count % 8 ≢ 0 → now (tail .exit) ≡ table (length (now (tail .entry))) (byteOf (message (now (tail .entry)) from))) ⌝ }
+{
+    if count % 8 != 0 {
+        bits::cut(tail, from);
+    }
+}
+
 // Puts the first `count` bits of a piece behind those of the tail: compresses each block that becomes full, and gives their number. What stands
 // past these bits in the last byte gets into the tail, and is made 0 there.
 pub fn advance(
@@ -74,9 +89,10 @@ pub fn advance(
         ((used + count) / blockBits (familyOf width)) (now (state .exit)) (now (tail .exit)) r ⌝ }
 {
     let blocks = join(width, used, state, tail, src, count);
-    if count % 8 == 0 {
-        return blocks;
+    if blocks == 0 {
+        trim(tail, count, used + count);
+        return 0;
     }
-    bits::cut(tail, tail::used_bits(width, (used + count) as u64));
+    trim(tail, count, tail::used_bits(width, (used + count) as u64));
     blocks
 }

@@ -1,9 +1,11 @@
 // The blocks of a byte string and the length block, of either family: a block has as many bytes as the slice that is lent for it.
+ghost use mathlib.Core.Bool.{true};
 ghost use mathlib.Core.Path.{_≡_};
 ghost use Prim.Native.Nat.{_+_, _*_, _/_, _%_, _^_, _≤_, _<_, min};
 ghost use lib.ListN.{length, getD, take, drop};
 ghost use Rattle.simd.specs.Basic.{table};
 ghost use Rattle.simd.specs.Message.{byteOf, message};
+ghost use Rattle.bits.specs.Zero.{allZero};
 
 pub fn smaller(x: usize, y: usize) -> usize
     ensures { λ r. ⌜ r ≡ min x y ⌝ }
@@ -20,9 +22,9 @@ pub fn part(bytes: &[u8], at: usize, size: usize) -> &[u8]
     &bytes[at..end]
 }
 
-// The bytes from a place on, with zeros past their end.
+// The bytes from a place on, put over zeros, so that zeros stand past their end.
 pub fn fill(bytes: &[u8], at: usize, block: &mut [u8])
-    requires { ⌜ at ≤ length (now bytes) ⌝ }
+    requires { ⌜ (at ≤ length (now bytes)) × (allZero (now block) ≡ true) ⌝ }
     ensures { λ _. ⌜ now (block .exit) ≡ table (length (now (block .entry))) (λ j. getD (now (bytes .entry)) (at + j) 0) ⌝ }
 {
     let count = smaller(bytes.len() - at, block.len());
@@ -31,15 +33,11 @@ pub fn fill(bytes: &[u8], at: usize, block: &mut [u8])
         block[j] = bytes[at + j];
         j += 1;
     }
-    while j < block.len() {
-        block[j] = 0;
-        j += 1;
-    }
 }
 
-// The first `count` bits from a place on, with zeros behind the last one, whatever stands there.
+// The first `count` bits from a place on, put over zeros: whatever stands behind the last one, zeros do here.
 pub fn fill_bits(bytes: &[u8], at: usize, count: usize, block: &mut [u8])
-    requires { ⌜ (8 * at + count ≤ 8 * length (now bytes)) × ((count + 7) / 8 ≤ length (now block)) ⌝ }
+    requires { ⌜ (8 * at + count ≤ 8 * length (now bytes)) × ((count + 7) / 8 ≤ length (now block)) × (allZero (now block) ≡ true) ⌝ }
     ensures { λ _. ⌜ now (block .exit) ≡ table (length (now (block .entry))) (byteOf (message (drop at (now (bytes .entry))) count)) ⌝ }
 {
     let used = bits::bytes_of_bits(count);

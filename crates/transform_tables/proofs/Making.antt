@@ -1,6 +1,7 @@
 -- The table of roots, made from the last entry to the first.
 use mathlib.Core.Bool.{_&&_}
 use mathlib.Core.List.{List}
+use mathlib.Core.Logic.{_≢_}
 use mathlib.Core.Path.{_≡_, sym, ap, _∙_, subst}
 use Prim.Native.Nat.{ℕ, _+_, _*_, _-_, _<_, _≤_}
 use native.Mathlib.Omega.{arith}
@@ -25,15 +26,9 @@ fit-in at first step n inside same k h = (
   eqb→eq (exponent 7 (at + k)) (first + step * k) (below-at n (λ k. eqb (exponent 7 (at + k)) (first + step * k)) same k h),
 )
 
--- The modulus, and a number that no one reads.
-pub begun-none : (t : List ℕ) → length t ≡ 512 → Begun (set (set t 0 257) 256 65535) 256
+pub begun-none : (t : List ℕ) → length t ≡ 512 → Begun t 256
 begun-none t size =
-    record {
-      size = omega (arith, length-set (set t 0 257) 256 65535, length-set t 0 257);
-      modulus = getD-set-other (set t 0 257) 256 0 65535 0 (λ e. omega arith) ∙ getD-set-same t 0 257 0 (omega arith);
-      entry = λ j from below. absurd (omega arith);
-      scaled = λ j from below. absurd (omega arith);
-    }
+    record { size = size; entry = λ j from below. absurd (omega arith); scaled = λ j from below. absurd (omega arith) }
 
 -- Entries of a row more.
 module _ (t t′ : List ℕ) (at first step n : ℕ) (places : (0 < at) × (at + n ≤ 256)) (exponents : fit at first step n) (done : Begun t (at + n))
@@ -56,7 +51,6 @@ module _ (t t′ : List ℕ) (at first step n : ℕ) (places : (0 < at) × (at +
   begun-more =
       record {
         size = omega (arith, row .size, done .size);
-        modulus = other 0 (λ from. omega arith) (λ from. omega arith) ∙ done .modulus;
         entry = λ j from below. elim (decLt j (at + n)) [
           | yes less ↦ here j from less .0
           | no past ↦ other j (λ low. omega arith) (λ high. omega arith) ∙ done .entry j (omega arith) below
@@ -76,13 +70,26 @@ next-exponent : (i : ℕ) → i < 128 → exponent 7 i ≡ exponent 7 (2 * i)
 unfolding exponent
 next-exponent i h = eqb→eq (exponent 7 i) (exponent 7 (2 * i)) (below-at 128 (λ i. eqb (exponent 7 i) (exponent 7 (2 * i))) tt i h)
 
-pub roots-made : (t : List ℕ) → Begun t 1 → Roots t
-roots-made t made =
-    record {
-      size = made .size;
-      modulus = made .modulus;
-      last-row = λ k h. made .entry (128 + k) (omega arith) (omega arith) ∙ ap (power 41) (last-exponent k h);
-      each-row = λ i low high. made .entry i low (omega arith) ∙ ap (power 41) (next-exponent i high) ∙ sym (made .entry (2 * i) (omega arith) (omega arith));
-      below = λ i low high. rw (made .entry i low high) (power-lt 41 (exponent 7 i));
-      scaled = λ i low high. made .scaled i low high ∙ ap (λ v. 255 * v) (sym (made .entry i low high));
-    }
+-- The modulus, and a number that no one reads, after all others.
+module _ (t : List ℕ) (made : Begun t 1) where
+  abbrev whole : List ℕ
+  whole = set (set t 0 257) 256 65535
+
+  kept : (i : ℕ) → 0 < i → i ≢ 256 → getD whole i 0 ≡ getD t i 0
+  kept i low other = getD-set-other (set t 0 257) 256 i 65535 0 other ∙ getD-set-other t 0 i 257 0 (λ (e : i ≡ 0). omega arith)
+
+  entry : (i : ℕ) → 0 < i → i < 256 → getD whole i 0 ≡ power 41 (exponent 7 i)
+  entry i low high = kept i low (λ (e : i ≡ 256). omega arith) ∙ made .entry i low high
+
+  pub roots-made : Roots whole
+  roots-made =
+      record {
+        size = omega (arith, length-set (set t 0 257) 256 65535, length-set t 0 257, made .size);
+        modulus = getD-set-other (set t 0 257) 256 0 65535 0 (λ (e : 0 ≡ 256). omega arith) ∙ getD-set-same t 0 257 0 (omega (arith, made .size));
+        last-row = λ k h. entry (128 + k) (omega arith) (omega arith) ∙ ap (power 41) (last-exponent k h);
+        each-row = λ i low high. entry i low (omega arith) ∙ ap (power 41) (next-exponent i high) ∙ sym (entry (2 * i) (omega arith) (omega arith));
+        below = λ i low high. rw (entry i low high) (power-lt 41 (exponent 7 i));
+        scaled =
+            λ i low high.
+            kept (256 + i) (omega arith) (λ (e : 256 + i ≡ 256). omega arith) ∙ made .scaled i low high ∙ ap (λ v. 255 * v) (sym (entry i low high));
+      }

@@ -26,6 +26,5 @@ exponent (suc rows) i = cond (leb 128 i) (i - 128) (exponent rows (2 * i))
 -- While the table is made: what holds of it from entry i on.
 pub record Begun (t : List ℕ) (i : ℕ) : Type 0 where
   pub size : length t ≡ 512
-  pub modulus : getD t 0 0 ≡ 257
   pub entry : (j : ℕ) → i ≤ j → j < 256 → getD t j 0 ≡ power 41 (exponent 7 j)
   pub scaled : (j : ℕ) → i ≤ j → j < 256 → getD t (256 + j) 0 ≡ 255 * power 41 (exponent 7 j)

@@ -1096,15 +1096,14 @@ fn row(powers: &[u16; 256], t: &mut [u16], at: usize, first: usize, step: usize,
 }
 
 // Makes the table of roots in a lent array: an array that is handed back is copied once more. Each call has at most 32 turns, which the
-// compiler unrolls: then all entries are constants, and the whole table is stored in one piece. Nothing reads entry 256: it is stored so that
-// the array need not be zeroed.
+// compiler unrolls: then all entries are constants, and the whole table is stored in one piece. Entries 0 and 256 come last: before the others,
+// they would be stored apart from them, and these across the bounds of vectors. Nothing reads entry 256: it is stored so that the array need
+// not be zeroed.
 pub fn fill_roots(t: &mut [u16])
     requires { ⌜ length (now t) ≡ 512 ⌝ }
     ensures { λ r. ⌜ Roots (now (t .exit)) ⌝ }
 {
     let p = powers();
-    t[0] = 257;
-    t[256] = 65535;
     row(&p, t, 224, 96, 1, 32);
     row(&p, t, 192, 64, 1, 32);
     row(&p, t, 160, 32, 1, 32);
@@ -1117,6 +1116,8 @@ pub fn fill_roots(t: &mut [u16])
     row(&p, t, 4, 0, 32, 4);
     row(&p, t, 2, 0, 64, 2);
     row(&p, t, 1, 0, 128, 1);
+    t[0] = 257;
+    t[256] = 65535;
 }
 
 // The table of roots.

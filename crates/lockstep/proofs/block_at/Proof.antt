@@ -1,8 +1,10 @@
 -- The bits as far as the message goes, or the block, are the block.
+use mathlib.Core.Path.{refl}
 use Prim.Native.Nat.{_*_, _-_, _<_}
 use native.Mathlib.Omega.{arith}
 use borrow.Author.Needs.{needs}
 use Rattle.simd.specs.Basic.{familyOf}
+use Rattle.bits.specs.Zero.{allZero}
 use Rattle.lockstep.proofs.BlockLaws.{size-within, at-within, block-filled}
 use Rattle.lockstep.proofs.block_at.Statement.{statement}
 use Rattle.lockstep.proofs.block_at.Tie as tie
@@ -35,11 +37,12 @@ sub-smaller : tie.Need-sub-smaller
 sub-smaller c = omega (arith, within c)
 
 fill-bits-requires : tie.Need-fill-bits-requires
+unfolding allZero
 fill-bits-requires c κs =
     let counted = c .before .before in
     let size = size-within (familyOf (start counted .args .width)) (counted .before .block-bytes .ensures) in
     let end = c .before .smaller .ensures in
-    (omega (arith, within counted, start counted .pre .0, end), omega (arith, size, end))
+    (omega (arith, within counted, start counted .pre .0, end), omega (arith, size, end), refl)
 
 returns : tie.Need-returns
 returns c =

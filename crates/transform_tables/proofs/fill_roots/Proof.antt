@@ -2,7 +2,8 @@
 use Prim.Native.Nat.{_+_}
 use native.Mathlib.Omega.{arith}
 use borrow.Author.Needs.{needs}
-use Rattle.transform_tables.specs.Roots.{exponent}
+use lib.ListN.{length-set}
+use Rattle.transform_tables.specs.Roots.{exponent, Begun}
 use Rattle.transform_tables.proofs.Making.{fit-in, begun-none, roots-made}
 use Rattle.transform_tables.proofs.fill_roots.Statement.{statement}
 use Rattle.transform_tables.proofs.fill_roots.Tie as tie
@@ -105,15 +106,24 @@ unfolding exponent
 row-requires-12 c κs =
     ((powers-12 c .powers .ensures, omega arith, omega arith), (fit-in 1 0 128 1 tt tt, c .before .before .before .before .row11 .ensures))
 
+-- The two entries that no row has.
+made : (c : tie.After-slice-known13) → Begun (c .before .before .row12 .last .1 .0) 1
+made c = c .before .before .row12 .ensures
+
+slice-write-t : tie.Need-slice-write-t
+slice-write-t c = omega (arith, made c .size)
+
+slice-write-t-2 : tie.Need-slice-write-t-2
+slice-write-t-2 c = simp length-set (omega (arith, made c .size))
+
 same-length : tie.Need-same-length
-same-length c = let last = c .before .before in omega (arith, last .row12 .ensures .size, powers-12 (last .before) .before .before .pre)
+same-length c = simp length-set (omega (arith, made c .size, powers-12 (c .before .before .before) .before .before .pre))
 
 returns : tie.Need-returns
-returns c = let last = c .before .before in roots-made (last .row12 .last .1 .0) (last .row12 .ensures)
+returns c = roots-made _ (made c)
 
 pub fill-roots-spec : {M : Type 1} → statement M
 fill-roots-spec =
     tie.close
-    (tie.spec (λ c κs. search needs) (λ c. search needs) (λ c. search needs) row-requires row-requires-2 row-requires-3 row-requires-4 row-requires-5
-    row-requires-6 row-requires-7 row-requires-8 row-requires-9 row-requires-10 row-requires-11 row-requires-12
-    same-length returns)
+    (tie.spec (λ c κs. search needs) row-requires row-requires-2 row-requires-3 row-requires-4 row-requires-5 row-requires-6 row-requires-7
+    row-requires-8 row-requires-9 row-requires-10 row-requires-11 row-requires-12 slice-write-t slice-write-t-2 same-length returns)
