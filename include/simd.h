@@ -1,5 +1,5 @@
 /* simd.h - SIMD v1.1: digests and keyed seals of bit strings, comparison,
-   sealing tape, ledger page
+   sealing tape, ledger page, quotes
 
    C99 and C++11, on x86-64.  Link with -lsimd, or with libsimd.a by its path.
 
@@ -190,6 +190,40 @@
            return fwrite(page, 1, used, stdout) == used ? 0 : 1;
        }
 
+     quote.c: the quote of a digest, checked, and checked again after a slip: two
+     digits change places.  The quote is bytes, and no zero byte ends them.
+
+       #include <stdio.h>
+       #include "simd.h"
+
+       static void print(const uint8_t *quote, size_t len)
+       {
+           uint64_t right = 0;
+           uint8_t refusal = simd_quote_check(quote, len, &right);
+           printf("%.*s %s\n", (int)len, (const char *)quote,
+                  refusal == SIMD_ACCEPTED && right == 1 ? "right" : "wrong");
+       }
+
+       int main(void)
+       {
+           const uint8_t message[3] = {'a', 'b', 'c'};
+           uint8_t digest[SIMD_DIGEST(256)], quote[SIMD_QUOTE(256)], first;
+           uint8_t refusal = simd_hash(256, message, sizeof message, 8 * sizeof message,
+                                       digest, sizeof digest);
+           if (refusal == SIMD_ACCEPTED)
+               refusal = simd_quote(256, digest, sizeof digest, quote, sizeof quote);
+           if (refusal != SIMD_ACCEPTED) {
+               fprintf(stderr, "refused %d: %s\n", refusal, simd_refusal_text(refusal));
+               return 1;
+           }
+           print(quote, sizeof quote);
+           first = quote[0];
+           quote[0] = quote[1];
+           quote[1] = first;
+           print(quote, sizeof quote);
+           return 0;
+       }
+
      vector.cpp: a std::vector, which may be empty.
 
        #include <cstdio>
@@ -255,6 +289,7 @@ extern "C" {
 #define SIMD_DIGEST_MAX 64      /* the longest digest */
 #define SIMD_LINE 76            /* a line of a page: 75 columns and a newline */
 #define SIMD_ENTRY_MAX 152      /* the longest entry of a page: two lines */
+#define SIMD_QUOTE_MAX 18       /* the longest quote: 16 digits and 2 check digits */
 
 /* The same for one of the four widths. */
 #define SIMD_BLOCK(width) ((width) <= 256 ? SIMD_BLOCK_SMALL : SIMD_BLOCK_LARGE)
@@ -263,6 +298,7 @@ extern "C" {
 #define SIMD_WORDS(width) ((width) <= 256 ? SIMD_WORDS_SMALL : SIMD_WORDS_LARGE)
 #define SIMD_DIGEST(width) ((width) / 8)
 #define SIMD_ENTRY(width) ((width) <= 256 ? SIMD_LINE : 2 * SIMD_LINE)
+#define SIMD_QUOTE(width) SIMD_QUOTE_MAX
 
 /* The most bits of a message; of a keyed hash, of its key, and of its message with
    one block for the key. */
@@ -290,6 +326,8 @@ extern "C" {
 #define SIMD_STACK_COMPARE 8192
 #define SIMD_STACK_TAPE 10240
 #define SIMD_STACK_PAGE_ENTRY 448
+#define SIMD_STACK_QUOTE 128
+#define SIMD_STACK_QUOTE_CHECK 144
 #define SIMD_STACK_MAX 13312    /* of all calls */
 
 /* REFUSALS */
@@ -648,6 +686,56 @@ SIMD_CALL uint8_t simd_tape(const uint8_t *tape, size_t tape_len,
 SIMD_CALL uint8_t simd_page_entry(uint64_t number, uint16_t width,
                                   const uint8_t *digest, size_t digest_len,
                                   uint8_t *out, size_t out_len);
+
+/* QUOTE
+
+   The quote of a digest is what invoices and listings name it by: 18 characters of
+   ASCII, the 16 hexadecimal digits of the digest's first 8 bytes, lowercase, and
+   two decimal check digits.  With the 16 read as a number N, the first digit the
+   highest, the check is 98 - (100 * N modulo 97), from 02 to 98, always with two
+   digits:
+
+     N = 0              000000000000000098
+     N = 1              000000000000000195
+     N = 31             000000000000001f05
+     N = 32             000000000000002002
+     N = 2^64 - 1       ffffffffffffffff15
+
+   This is the reckoning of ISO 7064, MOD 97-10.
+
+   18 characters are a right quote where the first 16 are such digits and the others
+   are the check digits of these.  The quote of every digest is right.  A right quote
+   in which one hexadecimal digit is changed to anything else, or two unequal
+   neighbours among the 16 are exchanged, and whose check digits are kept, is not
+   right any more.
+
+   A CHECK FINDS A SLIP, NOT A FORGERY: anyone can work out the check digits of any
+   16 digits, and a right quote need not be that of the digest in question.  To tell
+   that, compare the quotes, which is to compare 64 bits of the digests, or compare
+   whole digests. */
+
+/* simd_quote - the quote of a digest
+
+   Writes the quote to the first SIMD_QUOTE(width) bytes of out, with no zero byte
+   after them.  Any bytes will do as a digest; a tag is quoted in the same way.
+
+   Refusals, in order:
+     SIMD_REFUSED_WIDTH
+     SIMD_REFUSED_BLOCK   digest_len is not SIMD_DIGEST(width)
+     SIMD_REFUSED_OUTPUT  out_len is below SIMD_QUOTE(width) */
+SIMD_CALL uint8_t simd_quote(uint16_t width, const uint8_t *digest, size_t digest_len,
+                             uint8_t *out, size_t out_len);
+
+/* simd_quote_check - whether given bytes are a right quote
+
+   *right becomes 1 where the quote_len bytes of quote are a right quote, and else
+   0: also where they are fewer or more than 18, where a letter is a capital, and
+   where a space, a newline or a zero byte is among them.
+
+   Nothing is refused: it always returns SIMD_ACCEPTED, and that means "not
+   refused", not "right".  The verdict is in *right, as at simd_hmac_check, and is
+   written by every call. */
+SIMD_CALL uint8_t simd_quote_check(const uint8_t *quote, size_t quote_len, uint64_t *right);
 
 #ifdef __cplusplus
 }

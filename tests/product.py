@@ -39,6 +39,8 @@ CALLS = {
     "simd_compare": (WIDTH, *SLICE, BITS, *SLICE, BITS, NUMBER, NUMBER),
     "simd_tape": (*SLICE, *SLICE, NUMBER, NUMBER),
     "simd_page_entry": (ENTRY, WIDTH, *SLICE, *SLICE),
+    "simd_quote": (WIDTH, *SLICE, *SLICE),
+    "simd_quote_check": (*SLICE, NUMBER),
 }
 TRACE_CALLS = {
     "trace_transform": (WIDTH, FLAG, *SLICE, *SLICE),
@@ -192,6 +194,14 @@ def tape(data, out, count=0, place=0):
 
 def page_entry(number, width, digest, out):
     return call(library.simd_page_entry, number, width, const(digest), Lent(out))
+
+
+def quote(width, digest, out):
+    return call(library.simd_quote, width, const(digest), Lent(out))
+
+
+def quote_check(quote, right=0):
+    return call(library.simd_quote_check, const(quote), LentNumber(right))
 
 
 # The test-only library

@@ -61,13 +61,18 @@ def arguments(call, field):
                 read_bytes(field["b"]), int(field["b_bits"]), NUMBER, NUMBER)
     if call == "page_entry":
         return int(field["number"]), width, lent["digest"], lent["out"]
+    if call == "quote":
+        return width, lent["digest"], lent["out"]
+    if call == "quote_check":
+        return read_bytes(field["quote"]), NUMBER
     raise ValueError(call)
 
 
 # The places, among the arguments, of what each call is lent to write to.
 WRITTEN = {"open": (1,), "feed": (0, 3), "take": (1, 2), "hash": (3,), "hmac_open": (2,),
            "hmac_feed": (0, 3), "hmac_take": (1, 2), "hmac_check": (2,), "hmac": (4,), "expand": (3,),
-           "steps": (4,), "unsteps": (4,), "compare": (5, 6), "page_entry": (3,)}
+           "steps": (4,), "unsteps": (4,), "compare": (5, 6), "page_entry": (3,),
+           "quote": (2,), "quote_check": (1,)}
 
 
 # The places of each piece or message and of its count behind it.

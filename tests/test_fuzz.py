@@ -15,6 +15,7 @@ import sys
 from tally import Tally, message, random_arguments
 import door_ref
 import product
+import quote_ref
 import simd_ref as ref
 import tapes
 from test_edges import with_zeros
@@ -215,15 +216,45 @@ class Calls:
                              rng.choice((0, 999998, 999999, 1000000, 2 ** 32 + 1, 2 ** 64 - 1))))
         return number, width, self.lent(width % 1024 // 8), self.lent(76 if width <= 256 else 152)
 
+    def quote(self):
+        """A digest that begins with a number of any count of bits."""
+        rng, width = self.rng, a_width(self.rng)
+        digest = self.lent(width % 1024 // 8)
+        head = rng.randrange(2 ** rng.randrange(65)).to_bytes(8, "big")
+        return width, rng.choice((digest, (head + digest[8:])[:len(digest)])), self.lent(18)
+
+    def quote_check(self):
+        """Most often a right quote or one next to it; characters of other kinds too."""
+        rng = self.rng
+        quote = bytearray(quote_ref.with_check(b"%016x" % rng.randrange(2 ** rng.randrange(65))))
+        kind, place = rng.randrange(10), rng.randrange(18)
+        if kind == 0:
+            quote[place] = rng.choice((rng.randrange(256), *b"0123456789abcdefABCDEF/:`g@G "))
+        elif kind == 1:
+            place = rng.randrange(15)
+            quote[place:place + 2] = quote[place:place + 2][::-1]
+        elif kind == 2:
+            quote[16:] = rng.choice((b"%02d" % rng.randrange(100), b"%02x" % rng.randrange(256)))
+        elif kind == 3:
+            del quote[place:]
+        elif kind == 4:
+            quote[place:place] = rng.choice((b"0", b" ", b"\0", rng.randbytes(rng.randint(1, 20))))
+        elif kind == 5:
+            quote = quote.upper()
+        elif kind == 6:
+            quote = rng.randbytes(near(rng, 18))
+        return bytes(quote), rng.choice((self.number(), 0, 1))
+
 
 NAMES = ("open", "feed", "take", "hash", "hmac_open", "hmac_feed", "hmac_take", "hmac_check", "hmac",
-         "expand", "steps", "unsteps", "compare", "tape", "page_entry")
+         "expand", "steps", "unsteps", "compare", "tape", "page_entry", "quote", "quote_check")
 
 
 def main():
-    rng, count = random_arguments(6, 6000)
+    rng, count = random_arguments(6, 6800)
     tally, calls = Tally("fuzz"), Calls(rng)
-    met, verdicts = {name: collections.Counter() for name in NAMES}, collections.Counter()
+    met = {name: collections.Counter() for name in NAMES}
+    verdicts = {name: collections.Counter() for name in ("hmac_check", "quote_check")}
     for k in range(count):
         name = NAMES[k % len(NAMES)]
         arguments = getattr(calls, name)()
@@ -233,11 +264,12 @@ def main():
         met[name][found[0]] += 1
         if found[0] == 0:
             calls.keep(name, found[1])
-        if name == "hmac_check" and found[0] == 0:
-            verdicts[found[1]] += 1
+        if name in verdicts and found[0] == 0:
+            verdicts[name][found[1]] += 1
     for name in NAMES:
         print("fuzz, %s: %s" % (name, ", ".join("%d: %d" % item for item in sorted(met[name].items()))))
-    print("fuzz, verdicts of hmac_check: %d right, %d not" % (verdicts[1], verdicts[0]))
+    for name, counted in verdicts.items():
+        print("fuzz, verdicts of %s: %d right, %d not" % (name, counted[1], counted[0]))
     return tally.finish("%d calls" % count)
 
 

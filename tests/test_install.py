@@ -14,6 +14,7 @@ import tempfile
 
 from tally import HERE, Tally
 import simd_ref as ref
+import tape_ref
 
 ROOT = os.path.dirname(HERE)
 TIMEOUT = 120
@@ -94,10 +95,9 @@ def check_install(tally, room, env, prefix, more):
     if os.path.lexists(link):
         os.remove(link)
     os.symlink(seal, link)
-    digest = ref.digest(256, b"", 0).hex()
+    listing = tape_ref.line(1, 256, ref.digest(256, b"", 0)) + "\ndone 1\n"
     for command in (seal, link):
-        tally.equal(run([command], b"\x01\x00\x01\x04\x05", env=env),
-                    ("digest 1 256 %s %s\ndone 1\n" % (digest, digest[:8]), "", 0), "installed seal: done")
+        tally.equal(run([command], b"\x01\x00\x01\x04\x05", env=env), (listing, "", 0), "installed seal: done")
         tally.equal(run([command], b"\x05", env=env, cwd="/"), ("done 0\n", "", 0), "installed seal: from elsewhere")
         tally.equal(run([command], b"", env=env), ("refused 11 at 0\n", "", 1), "installed seal: refused")
         folder = os.open(room, os.O_RDONLY)

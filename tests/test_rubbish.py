@@ -225,8 +225,8 @@ def check_parts(tally, rng):
                     tally.equal(product.tape(record + tapes.STOP, b"\x5a" * len(out), 5, NUMBER), (0, out, 1, NUMBER),
                                 "%s: %s" % (where, what))
                     tape_of[what] = tape_of.get(what, b"") + record
-            lines = ["digest %d %d %s %s\n" % (n, width, d.hex(), d.hex()[:8]) for n, d in enumerate(digests, 1)]
-            listing = "".join(lines) + "done 256\n"
+            lines = [tape_ref.line(n, width, digest) for n, digest in enumerate(digests, 1)]
+            listing = "\n".join(lines) + "\ndone 256\n"
             for what, tape in tape_of.items():
                 for program in SEALS:
                     done = subprocess.run([program], input=tape + tapes.STOP, stdout=subprocess.PIPE,

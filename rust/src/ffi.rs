@@ -137,4 +137,14 @@ extern "C" {
         out: *mut u8,
         out_len: usize,
     ) -> u8;
+
+    pub fn simd_quote(
+        width: u16,
+        digest: *const u8,
+        digest_len: usize,
+        out: *mut u8,
+        out_len: usize,
+    ) -> u8;
+
+    pub fn simd_quote_check(quote: *const u8, quote_len: usize, right: *mut u64) -> u8;
 }

@@ -2,12 +2,12 @@
 //!
 //! The names are those of the C header: [`Hash::open`], [`Hash::feed`], [`Hash::take`], [`hash`],
 //! [`Hmac::open`], [`Hmac::feed`], [`Hmac::take`], [`Hmac::check`], [`hmac`], [`expand`], [`steps`],
-//! [`unsteps`], [`compare`], [`tape`], [`page_entry`]. A width is 224, 256, 384 or 512. A message is
-//! bytes and a count of bits; in a byte the first bit is the highest, and what is past the count, in
-//! the last byte used and in the bytes behind it, is ignored. Elsewhere an open hash is called a
-//! hashing context, to feed is to update, and to take is to finalize; here the hash stays open. A
-//! keyed seal is a message authentication code, its bytes are the tag, and to check a tag is to verify
-//! it.
+//! [`unsteps`], [`compare`], [`tape`], [`page_entry`], [`quote`], [`quote_check`]. A width is 224, 256,
+//! 384 or 512. A message is bytes and a count of bits; in a byte the first bit is the highest, and what
+//! is past the count, in the last byte used and in the bytes behind it, is ignored. Elsewhere an open
+//! hash is called a hashing context, to feed is to update, and to take is to finalize; here the hash
+//! stays open. A keyed seal is a message authentication code, its bytes are the tag, and to check a tag
+//! is to verify it.
 //!
 //! ```
 //! let digest = simd::hash(256, b"", 0)?;
@@ -41,6 +41,7 @@
 mod ffi;
 mod keyed;
 mod page;
+mod quote;
 mod refusal;
 
 use std::fmt;
@@ -48,6 +49,7 @@ use std::io;
 
 pub use keyed::{hmac, hmac_bytes, Hmac, TakenTag};
 pub use page::{page_entry, NUMBER_MAX};
+pub use quote::{quote, quote_check};
 pub use refusal::{Refusal, TapeRefusal};
 
 /// The most bits of a message; of a keyed hash, of its key, and of its message with one block for the
@@ -84,8 +86,8 @@ fn bits_of(bytes: &[u8]) -> u64 {
 
 /// A digest.
 ///
-/// Its `Display` and `LowerHex` are its lowercase hexadecimal digits. A precision cuts `Display`:
-/// the quote that `seal` prints is the first 8 digits.
+/// Its `Display` and `LowerHex` are its lowercase hexadecimal digits. A precision cuts `Display` to
+/// the first digits. The quote that `seal` prints is [`Digest::quote`].
 ///
 /// ```
 /// let digest = simd::hash_bytes(224, b"")?;
@@ -122,6 +124,18 @@ impl Digest {
     /// Its width.
     pub fn width(&self) -> u16 {
         8 * self.len as u16
+    }
+
+    /// Its quote, as [`quote()`] makes it and as `seal` prints it.
+    ///
+    /// ```
+    /// let digest = simd::hash_bytes(224, b"")?;
+    /// assert_eq!(digest.quote(), "43e1d53656d7b85d30");
+    /// assert!(simd::quote_check(digest.quote().as_bytes()));
+    /// # Ok::<(), simd::Refusal>(())
+    /// ```
+    pub fn quote(&self) -> String {
+        quote(self.width(), self.as_bytes()).expect("a digest has its width's length")
     }
 
     fn hex(&self) -> String {

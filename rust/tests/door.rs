@@ -1,13 +1,13 @@
-//! The wrapper against the digests of appendix A, the formula of keyed seals and the lines of a page;
-//! what is past a count; and its refusals.
+//! The wrapper against the digests of appendix A, the formula of keyed seals, the lines of a page and
+//! the reckoning of quotes; what is past a count; and its refusals.
 
 use std::fs;
 use std::io::Write;
 use std::path::Path;
 
 use simd::{
-    compare, expand, hash, hash_bytes, hmac, hmac_bytes, page_entry, steps, tape, Hash, Hmac,
-    Refusal, Verdict, NUMBER_MAX,
+    compare, expand, hash, hash_bytes, hmac, hmac_bytes, page_entry, quote, quote_check, steps,
+    tape, Hash, Hmac, Refusal, Verdict, NUMBER_MAX,
 };
 
 const WIDTHS: [u16; 4] = [224, 256, 384, 512];
@@ -591,6 +591,127 @@ fn refusals_of_entries() {
             }
         }
     }
+}
+
+/// The quote of 8 bytes, reckoned in numbers that hold 100 N.
+fn reckoned(head: &[u8]) -> String {
+    let number = u64::from_be_bytes(head.try_into().unwrap());
+    let check = 98 - 100 * u128::from(number) % 97;
+    format!("{number:016x}{check:02}")
+}
+
+/// Quotes of tests/reference/quote_ref.py.
+#[test]
+fn quotes_of_the_reference() {
+    for (number, expected) in [
+        (0, "000000000000000098"),
+        (1, "000000000000000195"),
+        (31, "000000000000001f05"),
+        (32, "000000000000002002"),
+        (96, "000000000000006004"),
+        (97, "000000000000006198"),
+        (0x0123_4567_89ab_cdef, "0123456789abcdef81"),
+        (u64::MAX, "ffffffffffffffff15"),
+    ] {
+        assert_eq!(reckoned(&number.to_be_bytes()), expected);
+        assert!(quote_check(expected.as_bytes()));
+        for width in WIDTHS {
+            for rest in [0, 0xa5, 0xff] {
+                let mut digest = vec![rest; usize::from(width / 8)];
+                digest[..8].copy_from_slice(&number.to_be_bytes());
+                assert_eq!(quote(width, &digest).unwrap(), expected);
+            }
+        }
+    }
+}
+
+/// The digests of appendix A and many other bytes: each quote is right.
+#[test]
+fn quotes_of_digests_are_right() {
+    for m in messages() {
+        let digest = hash(m.width, &m.data, m.bits).unwrap();
+        let expected = reckoned(&from_hex(&m.digest[..16]));
+        assert_eq!(digest.quote(), expected);
+        assert_eq!(quote(m.width, digest.as_bytes()), Ok(expected));
+        assert!(quote_check(digest.quote().as_bytes()));
+    }
+    let mut bytes = Bytes(3);
+    for k in 0..4000 {
+        let width = WIDTHS[k % 4];
+        let digest = bytes.message(u64::from(width));
+        let found = quote(width, &digest).unwrap();
+        assert_eq!(found, reckoned(&digest[..8]));
+        assert!(quote_check(found.as_bytes()));
+    }
+}
+
+/// Every other byte at every place, unequal neighbours exchanged, all check digits.
+#[test]
+fn slips_make_a_quote_wrong() {
+    let mut bytes = Bytes(4);
+    let mut heads: Vec<Vec<u8>> = (0..8).map(|_| bytes.message(64)).collect();
+    heads.extend([
+        vec![0; 8],
+        vec![0xff; 8],
+        vec![0x11, 0x22, 0x12, 0, 0, 0, 0, 32],
+    ]);
+    for head in heads {
+        let right = reckoned(&head).into_bytes();
+        for place in 0..right.len() {
+            for byte in 0..=255 {
+                let mut other = right.clone();
+                other[place] = byte;
+                assert_eq!(quote_check(&other), other == right);
+            }
+        }
+        for place in 0..15 {
+            let mut other = right.clone();
+            other.swap(place, place + 1);
+            assert_eq!(quote_check(&other), other == right);
+        }
+        let checks = (0..100).map(|check| format!("{check:02}").into_bytes());
+        let found: Vec<Vec<u8>> = checks
+            .map(|check| [&right[..16], &check].concat())
+            .filter(|other| quote_check(other))
+            .collect();
+        assert_eq!(found, [right]);
+    }
+}
+
+#[test]
+fn other_kinds_are_no_quotes() {
+    for head in [[0x5a; 8], [0xab; 8], [0; 8]] {
+        let right = reckoned(&head);
+        assert!(quote_check(right.as_bytes()));
+        for len in 0..18 {
+            assert!(!quote_check(&right.as_bytes()[..len]));
+            assert!(!quote_check(&right.as_bytes()[18 - len..]));
+        }
+        for more in ["0", " ", "\n", "\0", &right] {
+            assert!(!quote_check(format!("{right}{more}").as_bytes()));
+            assert!(!quote_check(format!("{more}{right}").as_bytes()));
+        }
+        let capitals = right.to_uppercase();
+        assert_eq!(quote_check(capitals.as_bytes()), capitals == right);
+    }
+    assert!(!quote_check(b"-"));
+}
+
+/// 1, then 7; there is always room.
+#[test]
+fn refusals_of_quotes() {
+    for width in WIDTHS {
+        let len = usize::from(width / 8);
+        let digest = vec![0xa5; len + 1];
+        assert!(quote(width, &digest[..len]).is_ok());
+        for wrong in [0, 8, len - 1, len + 1] {
+            assert_eq!(quote(width, &digest[..wrong]), Err(Refusal::Block));
+        }
+        for wrong in [0, 8, len - 1, len] {
+            assert_eq!(quote(width + 1, &digest[..wrong]), Err(Refusal::Width));
+        }
+    }
+    assert_eq!(quote(64, &[0; 8]), Err(Refusal::Width));
 }
 
 #[test]

@@ -19,6 +19,9 @@ keyed.feed_bytes(b"abc")?;
 println!("{tag} {}", keyed.check(tag.as_bytes()));          // true: exactly the whole tag
 
 print!("{}", simd::page_entry(9, 256, digest.as_bytes())?); // an entry of a page, a line or two
+
+let quote = digest.quote();                                 // as seal prints it
+println!("{quote} {}", simd::quote_check(quote.as_bytes()));    // true: its check digits are right
 // end
     Ok(())
 }

@@ -22,6 +22,7 @@ sys.path.insert(0, os.path.dirname(HERE))
 from tally import Tally  # noqa: E402
 import hmac_ref  # noqa: E402
 import page_ref  # noqa: E402
+import quote_ref  # noqa: E402
 import simd_ref as ref  # noqa: E402
 import frames  # noqa: E402
 
@@ -112,7 +113,7 @@ def check_compilers():
         written(os.path.join("stubs", name), "")
     status, text, _ = run(["gcc", "-std=c99", "-E", "-P", "-U__GNUC__", "-nostdinc", "-I" + stubs,
                            INCLUDE, os.path.join(BUILT, "alone.c")])
-    tally.equal((status, text.count("uint8_t simd_"), "__attribute__" in text), (0, 15, False),
+    tally.equal((status, text.count("uint8_t simd_"), "__attribute__" in text), (0, 17, False),
                 "no attributes where they are not known")
 
 
@@ -130,6 +131,8 @@ CARELESS_CALLS = [
     ("-Werror=unused-result", "simd_tape(form, 1, out, 32, number, number + 1);"),
     ("-Werror=unused-result", "simd_hmac_check(form, 134, out, 32, number);"),
     ("-Werror=unused-result", "simd_page_entry(1, 256, form, 32, out, 76);"),
+    ("-Werror=unused-result", "simd_quote(256, form, 32, out, 18);"),
+    ("-Werror=unused-result", "simd_quote_check(out, 18, number);"),
     ("-Werror=nonnull", "answer = simd_open(256, NULL, 0);"),
     ("-Werror=nonnull", "answer = simd_feed(form, 134, NULL, 0, 0, number);"),
     ("-Werror=nonnull", "answer = simd_hash(256, NULL, 0, 0, out, 32);"),
@@ -138,6 +141,10 @@ CARELESS_CALLS = [
     ("-Werror=nonnull", "answer = simd_hmac_check(form, 134, NULL, 0, number);"),
     ("-Werror=nonnull", "answer = simd_page_entry(1, 256, NULL, 0, out, 76);"),
     ("-Werror=nonnull", "answer = simd_page_entry(1, 256, form, 32, NULL, 0);"),
+    ("-Werror=nonnull", "answer = simd_quote(256, NULL, 0, out, 18);"),
+    ("-Werror=nonnull", "answer = simd_quote(256, form, 32, NULL, 0);"),
+    ("-Werror=nonnull", "answer = simd_quote_check(NULL, 0, number);"),
+    ("-Werror=nonnull", "answer = simd_quote_check(out, 18, NULL);"),
     ("-Werror=overflow", "answer = simd_open(65792, form, sizeof form);"),
 ]
 
@@ -166,9 +173,16 @@ def page(data):
     return page_ref.page(entries).decode("ascii")
 
 
+def quotes(data):
+    """What the programs print that quote the digest of a message, and check the quote before and after
+    its first two digits are exchanged."""
+    quote = quote_ref.quote(ref.digest(256, data, 8 * len(data))).decode("ascii")
+    return "%s right\n%s%s%s wrong\n" % (quote, quote[1], quote[0], quote[2:])
+
+
 def check_examples():
     found = examples(HEADER)
-    tally.equal(sorted(found), ["keyed.c", "page.c", "stream.c", "vector.cpp", "whole.c"],
+    tally.equal(sorted(found), ["keyed.c", "page.c", "quote.c", "stream.c", "vector.cpp", "whole.c"],
                 "the header's examples")
     for name, text in found.items():
         source = written(name, text)
@@ -182,6 +196,8 @@ def check_examples():
                 tally.equal(run([built]), (0, keyed(b"group", b"abc"), ""), name)
             elif name == "page.c":
                 tally.equal(run([built]), (0, page(b"abc"), ""), name)
+            elif name == "quote.c":
+                tally.equal(run([built]), (0, quotes(b"abc"), ""), name)
             elif name == "vector.cpp":
                 tally.equal(run([built]), (0, digest(512, b""), ""), name)
             else:
@@ -203,10 +219,10 @@ def check_stream(built):
 
 
 def check_readme():
-    """README's programs in C, as they stand, and what it shows of the last two's output."""
+    """README's programs in C, as they stand, and what it shows of the output of all but the first."""
     readme = read("README.md")
     texts = fenced(readme, "c")
-    printed = [digest(256, b"abc"), keyed(b"group", b"abc"), page(b"abc")]
+    printed = [digest(256, b"abc"), keyed(b"group", b"abc"), page(b"abc"), quotes(b"abc")]
     tally.equal(len(texts), len(printed), "the programs in C")
     for expected in printed[1:]:
         tally.equal("\n```\n%s```\n" % expected in readme, True, "README's output of a program in C")
@@ -266,18 +282,24 @@ def check_memory():
     check_frames({name: int(used) for name, used in re.findall(r"^(simd_\w+) +(\d+) of", output, re.M)})
 
 
+def pushed(parameters):
+    """The bytes of a call's arguments on the stack, in whole pairs of words: six go by registers."""
+    return (max(parameters - 6, 0) + 1) // 2 * 16
+
+
 def check_frames(measured):
-    """What was measured is at most what the code can need, and that at most what
-    the header names.  Up to three arguments and a gap are pushed by the caller."""
-    arguments = 4 * 8
+    """What was measured, in whole words, is at most what the code can need with what
+    its caller pushes, and that at most what the header names."""
     named = {"simd_" + name.lower(): int(size)
              for name, size in re.findall(r"^#define SIMD_STACK_(\w+) (\d+)", HEADER, re.M)}
     named.pop("simd_max")
+    parameters = {name: words.count(",") + 1
+                  for name, words in re.findall(r"^SIMD_CALL uint8_t (\w+)\(([^)]*)\);", HEADER, re.M)}
     needed = frames.bounds(ARCHIVE)
-    tally.equal(set(needed), set(named), "a bound for each call")
-    tally.equal(set(measured), set(named), "a measurement of each call")
-    for name in sorted(set(named) & set(needed) & set(measured)):
-        most = needed[name] + arguments
+    for known, what in ((needed, "a bound"), (measured, "a measurement"), (parameters, "a declaration")):
+        tally.equal(set(known), set(named), what + " of each call")
+    for name in sorted(set(named) & set(needed) & set(measured) & set(parameters)):
+        most = (needed[name] + 7) // 8 * 8 + pushed(parameters[name])
         tally.equal(measured[name] <= most <= named[name], True,
                     "%s: measured %d, at most %d by its code, %d in the header"
                     % (name, measured[name], most, named[name]))

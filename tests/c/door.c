@@ -1,8 +1,9 @@
 /* Use of include/simd.h from C: hash, feed in pieces, store, restore, seal under
-   a key, compare, run a tape, all of these with bits past the count, print a page.
-   Prints how many answers it checked; the
-   exit status is 0 where all were right.  The digests are those of appendix A, the
-   tags those of tests/reference/hmac_ref.py, the pages those of printf. */
+   a key, compare, run a tape, all of these with bits past the count, print a page,
+   quote a digest and check the quote.  Prints how many answers it checked; the exit
+   status is 0 where all were right.  The digests are those of appendix A, the tags
+   those of tests/reference/hmac_ref.py, the pages those of printf, the quotes those
+   of tests/reference/quote_ref.py. */
 
 #include <stdio.h>
 #include <string.h>
@@ -31,19 +32,20 @@ static int is_hex(const uint8_t *data, size_t len, const char *hex)
 
 /* The message 00 01 .. of one block, and 700 or 1,079 bits of 1; the tag of these
    under the key 00 01 .. of one byte more than a block, and that of no bits under
-   an empty key. */
+   an empty key; the quote of the first digest. */
 struct vector {
     uint16_t width;
     const char *block_digest, *ones_digest;
     uint64_t ones;
-    const char *ones_tag, *empty_tag;
+    const char *ones_tag, *empty_tag, *block_quote;
 };
 
 static const struct vector VECTORS[] = {
     {256, "5bebdb816cd3e6c8c2b5a42867a6f41570c4b917f1d3b15aabc17f24679e6acd",
           "e80b4eeb8a370e6ca918e7810400441f6dd0da1eb4559cade791c314f82d524a", 700,
           "5b25769239ce0f5b47310280d9f0ee6a6dd9cf876844c2354e00f5bc03a210f2",
-          "347dc33e88a7b86b371110276081a67a928649181d22b46f7fce262866e928ba"},
+          "347dc33e88a7b86b371110276081a67a928649181d22b46f7fce262866e928ba",
+          "5bebdb816cd3e6c880"},
     {512, "8851ad0a57426b4af57af3294706c0448fa6accf24683fc239871be58ca913fb"
           "ee53e35c1dedd88016ebd131f2eb0761e97a3048de6e696787fd5f54981d6f2c",
           "c060fa9aae2414715a3a27c5df22dbd41469e3d09056b093861f0f6b9bdc311a"
@@ -51,7 +53,8 @@ static const struct vector VECTORS[] = {
           "009c1c8a8090811f1bb4c641550c2866e03f1f8a5972a68a94105aeed3e945b9"
           "e95911bc4802642a6891d58466226c7b91ad7cf36aa9d9da4d1118cefa90ecbd",
           "6c891206f82e90f4b311c6d15c6e375766c8fd0083f97dc1ef8d0f09dc280035"
-          "d597b068e69f9567aa6975048b89fa61dd70a757e8fa78b4dab5f493df264b3c"},
+          "d597b068e69f9567aa6975048b89fa61dd70a757e8fa78b4dab5f493df264b3c",
+          "8851ad0a57426b4a96"},
 };
 
 static void check_hash(const struct vector *v)
@@ -470,6 +473,110 @@ static void check_page(const struct vector *v)
           "an entry in a longer output");
 }
 
+enum { QUOTES = 8 };
+
+/* The first 8 bytes of a digest and their quote. */
+static const struct {
+    uint64_t number;
+    const char *quote;
+} WORKED[QUOTES] = {
+    {0, "000000000000000098"}, {1, "000000000000000195"}, {31, "000000000000001f05"},
+    {32, "000000000000002002"}, {96, "000000000000006004"}, {97, "000000000000006198"},
+    {UINT64_C(0x0123456789abcdef), "0123456789abcdef81"}, {UINT64_MAX, "ffffffffffffffff15"},
+};
+
+/* Whether bytes are told to be a right quote; the verdict is written whatever was
+   there before. */
+static int is_right_quote(const uint8_t *quote, size_t len)
+{
+    uint64_t first = 0, second = 1, third = UINT64_C(0x0123456789abcdef);
+    check(simd_quote_check(quote, len, &first) == SIMD_ACCEPTED
+              && simd_quote_check(quote, len, &second) == SIMD_ACCEPTED
+              && simd_quote_check(quote, len, &third) == SIMD_ACCEPTED
+              && first <= 1 && second == first && third == first,
+          "nothing is refused, and one verdict written");
+    return first == 1;
+}
+
+/* A right quote, and what is none: of every other length, with another character at
+   any place, with unequal neighbours exchanged, in capitals. */
+static void check_slips(const char *text)
+{
+    uint8_t quote[2 * SIMD_QUOTE_MAX], kept;
+    size_t k, n;
+    int letters = 0;
+    memcpy(quote, text, SIMD_QUOTE_MAX);
+    memcpy(quote + SIMD_QUOTE_MAX, text, SIMD_QUOTE_MAX);
+    for (k = 0; k <= sizeof quote; k++)
+        check(is_right_quote(quote, k) == (k == SIMD_QUOTE_MAX), "the length of a quote");
+    for (k = 0; k < SIMD_QUOTE_MAX; k++) {
+        kept = quote[k];
+        for (n = 0; n < 256; n++) {
+            quote[k] = (uint8_t)n;
+            check(is_right_quote(quote, SIMD_QUOTE_MAX) == (n == kept), "a character changed");
+        }
+        quote[k] = kept;
+    }
+    for (k = 0; k + 1 < SIMD_QUOTE_MAX - 2; k++) {
+        kept = quote[k];
+        quote[k] = quote[k + 1];
+        quote[k + 1] = kept;
+        check(is_right_quote(quote, SIMD_QUOTE_MAX) == (quote[k] == kept), "neighbours exchanged");
+        quote[k + 1] = quote[k];
+        quote[k] = kept;
+    }
+    for (k = 0; k < SIMD_QUOTE_MAX; k++)
+        if (quote[k] >= 'a') {
+            quote[k] = (uint8_t)(quote[k] - 'a' + 'A');
+            letters++;
+        }
+    check(is_right_quote(quote, SIMD_QUOTE_MAX) == (letters == 0), "a quote in capitals");
+}
+
+/* Quotes with guard bytes on both sides; then the refusals, in their order. */
+static void check_quote(const struct vector *v)
+{
+    uint8_t message[SIMD_BLOCK_LARGE], digest[SIMD_DIGEST_MAX + 1] = {0};
+    uint8_t out[GUARD + SIMD_QUOTE_MAX + GUARD], kept[sizeof out];
+    size_t size = SIMD_QUOTE(v->width), digest_len = SIMD_DIGEST(v->width), k, n;
+    check(size == 18 && SIMD_QUOTE_MAX == 18, "the size of a quote");
+    for (k = 0; k < sizeof message; k++)
+        message[k] = (uint8_t)k;
+    check(simd_hash(v->width, message, sizeof message, 8 * (uint64_t)SIMD_BLOCK(v->width), digest,
+                    digest_len)
+              == SIMD_ACCEPTED,
+          "a digest to quote");
+    memset(kept, 0x5a, sizeof kept);
+    memset(out, 0x5a, sizeof out);
+    check(simd_quote(v->width, digest, digest_len, out + GUARD, size) == SIMD_ACCEPTED
+              && memcmp(out + GUARD, v->block_quote, size) == 0
+              && memcmp(out, kept, GUARD) == 0 && memcmp(out + GUARD + size, kept, GUARD) == 0,
+          "a quote, and what lies round it");
+    check_slips(v->block_quote);
+    for (k = 0; k < QUOTES; k++) {
+        for (n = 0; n < 8; n++)
+            digest[n] = (uint8_t)(WORKED[k].number >> (56 - 8 * n));
+        memset(out, 0x5a, sizeof out);
+        check(simd_quote(v->width, digest, digest_len, out + GUARD, size + GUARD) == SIMD_ACCEPTED
+                  && memcmp(out + GUARD, WORKED[k].quote, size) == 0
+                  && memcmp(out, kept, GUARD) == 0
+                  && memcmp(out + GUARD + size, kept, GUARD) == 0,
+              "a quote in a longer output");
+        check(is_right_quote(out + GUARD, size), "the quote of a digest is right");
+    }
+
+    memset(out, 0x5a, sizeof out);
+    check(simd_quote(v->width + 1, digest, digest_len - 1, out, size - 1) == SIMD_REFUSED_WIDTH
+              && simd_quote(v->width + 1, digest, digest_len, out, size) == SIMD_REFUSED_WIDTH
+              && simd_quote(v->width, digest, digest_len - 1, out, size - 1) == SIMD_REFUSED_BLOCK
+              && simd_quote(v->width, digest, digest_len + 1, out, size) == SIMD_REFUSED_BLOCK
+              && simd_quote(v->width, digest, 8, out, size) == SIMD_REFUSED_BLOCK
+              && simd_quote(v->width, digest, digest_len, out, size - 1) == SIMD_REFUSED_OUTPUT
+              && simd_quote(v->width, digest, digest_len, out, 0) == SIMD_REFUSED_OUTPUT
+              && memcmp(out, kept, sizeof out) == 0,
+          "refusals of a quote");
+}
+
 int main(void)
 {
     size_t k;
@@ -483,6 +590,7 @@ int main(void)
         check_rubbish(&VECTORS[k]);
         check_parts(&VECTORS[k]);
         check_page(&VECTORS[k]);
+        check_quote(&VECTORS[k]);
     }
     printf("c: %u compared, %u differ\n", compared, differ);
     return differ != 0;

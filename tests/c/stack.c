@@ -22,6 +22,7 @@ static uint16_t width;
 static uint8_t form[SIMD_FORM_LARGE], keyed[SIMD_HMAC_FORM_LARGE], a[LONG], b[LONG], out[LONG];
 static uint32_t words[SIMD_WORDS_LARGE];
 static size_t form_len, keyed_len, key_len, tag_len, block_len, tape_len, digest_len, entry_len;
+static size_t quote_len;
 static uint64_t bits, other_bits, number, second, entry;
 static volatile uint8_t answer;
 
@@ -119,6 +120,18 @@ static void call_page_entry(void)
     answer = simd_page_entry(entry, width, a, digest_len, out, entry_len);
 }
 
+static void call_quote(void)
+{
+    MARK();
+    answer = simd_quote(width, a, digest_len, out, quote_len);
+}
+
+static void call_quote_check(void)
+{
+    MARK();
+    answer = simd_quote_check(out, quote_len, &number);
+}
+
 static struct bound {
     const char *name;
     size_t bound, used;
@@ -140,10 +153,12 @@ static struct bound {
     {"simd_compare", SIMD_STACK_COMPARE, 0, call_compare, 0, 0},
     {"simd_tape", SIMD_STACK_TAPE, 0, call_tape, 0, 0},
     {"simd_page_entry", SIMD_STACK_PAGE_ENTRY, 0, call_page_entry, 0, 0},
+    {"simd_quote", SIMD_STACK_QUOTE, 0, call_quote, 0, 0},
+    {"simd_quote_check", SIMD_STACK_QUOTE_CHECK, 0, call_quote_check, 0, 0},
 };
 enum {
     OPEN, FEED, TAKE, HASH, HMAC_OPEN, HMAC_FEED, HMAC_TAKE, HMAC_CHECK, HMAC,
-    EXPAND, STEPS, UNSTEPS, COMPARE, TAPE, PAGE_ENTRY, CALLS
+    EXPAND, STEPS, UNSTEPS, COMPARE, TAPE, PAGE_ENTRY, QUOTE, QUOTE_CHECK, CALLS
 };
 
 static uint64_t pattern(size_t k)
@@ -247,6 +262,41 @@ static void measure_entries(void)
     measure(PAGE_ENTRY);
 }
 
+/* Quotes with a check of either kind of first digit, each checked as it is and with
+   another character at each place; then one for which the digest is a byte short,
+   one for which the output is, and checks of every length. */
+static void measure_quotes(void)
+{
+    static const uint8_t LAST[] = {0, 1, 31, 32};
+    size_t k, n;
+    digest_len = SIMD_DIGEST(width);
+    quote_len = SIMD_QUOTE(width);
+    for (k = 0; k < sizeof LAST; k++) {
+        memset(a, 0, 8);
+        a[7] = LAST[k];
+        measure(QUOTE);
+        measure(QUOTE_CHECK);
+        for (n = 0; n < quote_len; n++) {
+            uint8_t kept = out[n];
+            out[n] = 'g';
+            measure(QUOTE_CHECK);
+            out[n] = '7';
+            measure(QUOTE_CHECK);
+            out[n] = kept;
+        }
+    }
+    memset(a, 0xff, 8);
+    measure(QUOTE);
+    measure(QUOTE_CHECK);
+    digest_len--;
+    measure(QUOTE);
+    digest_len++;
+    for (quote_len = 0; quote_len < 2 * SIMD_QUOTE(width); quote_len++) {
+        measure(QUOTE);
+        measure(QUOTE_CHECK);
+    }
+}
+
 int main(void)
 {
     static const uint16_t WIDTHS[] = {224, 256, 384, 512, 160};
@@ -295,12 +345,13 @@ int main(void)
         tape_len--;
         measure(TAPE);
         measure_entries();
+        measure_quotes();
     }
     for (k = 0; k < CALLS; k++) {
         const struct bound *bound = &BOUNDS[k];
         int right = bound->used <= bound->bound && 4 * bound->bound <= 5 * bound->used
                     && bound->accepted > 0;
-        printf("%-15s %6zu of %6zu bytes of stack, %u calls, %u accepted%s\n", bound->name,
+        printf("%-16s %6zu of %6zu bytes of stack, %u calls, %u accepted%s\n", bound->name,
                bound->used, bound->bound, bound->calls, bound->accepted, right ? "" : ": wrong");
         wrong += !right;
         if (bound->bound > most)

@@ -8,6 +8,7 @@ the call of everything that was lent.
 
 import hmac_ref
 import page_ref
+import quote_ref
 import simd_ref as ref
 import tape_ref
 
@@ -274,3 +275,17 @@ def page_entry(number, width, digest, out):
         lines = page_ref.entry(number, width, digest)
         refusal = 6 if len(out) < len(lines) else 0
     return refusal, out if refusal else over(lines, out)
+
+
+def quote(width, digest, out):
+    refusal = width_refusal(width)
+    if not refusal and len(digest) != width // 8:
+        refusal = 7
+    if not refusal and len(out) < quote_ref.SIZE:
+        refusal = 6
+    return refusal, out if refusal else over(quote_ref.quote(digest), out)
+
+
+def quote_check(quote, right=0):
+    """Nothing is refused, and the verdict is written whatever it was before."""
+    return 0, int(quote_ref.is_right(quote))

@@ -1,15 +1,17 @@
 """The tape of commands and the listing of `seal`, written from the scope and from
-the change requests: what is past the count of a PART is ignored.
+the change requests: what is past the count of a PART is ignored, and a line ends
+with the quote of its digest.
 
-    read(tape, at)   the command at a place and the next place, or Refused
-    run(tape, room)  its digests, the refusal and its place
-    listing(tape)    what `seal` prints
+    read(tape, at)       the command at a place and the next place, or Refused
+    run(tape, room)      its digests, the refusal and its place
+    listing(tape, room)  what `seal` prints
 
 Run alone, it prints the listing of the tape on standard input.
 """
 
 import sys
 
+import quote_ref
 import simd_ref as ref
 
 OPEN, FULL, PART, TAKE, STOP = 1, 2, 3, 4, 5
@@ -80,13 +82,16 @@ def run(tape, room=None):
         return (digests, *refused.args)
 
 
-def listing(tape):
-    """The standard output of `seal`."""
+def line(number, width, digest):
+    return "digest %d %d %s %s" % (number, width, digest.hex(), quote_ref.quote(digest).decode("ascii"))
+
+
+def listing(tape, room=None):
+    """The standard output of `seal`; of a seal with no more than that room, where one is given."""
     if len(tape) > TAPE_MAX:
         return "refused 13 at 65536\n"
-    digests, refusal, place = run(tape)
-    lines = ["digest %d %d %s %s" % (n, width, digest.hex(), digest.hex()[:8])
-             for n, (width, digest) in enumerate(digests, 1)]
+    digests, refusal, place = run(tape, room)
+    lines = [line(n, width, digest) for n, (width, digest) in enumerate(digests, 1)]
     lines.append("refused %d at %d" % (refusal, place) if refusal else "done %d" % len(digests))
     return "\n".join(lines) + "\n"
 

@@ -21,6 +21,12 @@ use Rattle.hash.proofs.Feeding.{at-widths}
 pub digest-room : (width : ℕ) → isWidth width ≡ true → digestBytes width ≤ 4 * stateWords (familyOf width)
 digest-room = at-widths (λ (w : ℕ). digestBytes w ≤ 4 * stateWords (familyOf w)) (lit≤ tt) (lit≤ tt) (lit≤ tt) (lit≤ tt)
 
+-- It has at most 64 bytes, and the 8 that a quote is of.
+pub digest-bounds : (width : ℕ) → isWidth width ≡ true → (digestBytes width ≤ 64) × (8 ≤ digestBytes width)
+digest-bounds =
+    at-widths (λ (w : ℕ). (digestBytes w ≤ 64) × (8 ≤ digestBytes w))
+    (lit≤ tt, lit≤ tt) (lit≤ tt, lit≤ tt) (lit≤ tt, lit≤ tt) (lit≤ tt, lit≤ tt)
+
 pub digest-words : (width : ℕ) → isWidth width ≡ true → digestBytes width % 4 ≡ 0
 digest-words = at-widths (λ (w : ℕ). digestBytes w % 4 ≡ 0) refl refl refl refl
 

@@ -2,16 +2,17 @@
 use mathlib.Core.Bool.{Bool, true, false, cond}
 use mathlib.Core.List.{List, [], _∷_, _++_}
 use mathlib.Core.Path.{_≡_}
-use Prim.Native.Nat.{ℕ, zero, suc, _+_, _*_, _-_, _/_, _%_, _^_, _≤_, _<_}
+use Prim.Native.Nat.{ℕ, _+_, _*_, _-_, _≤_, _<_}
 use native.Mathlib.Omega.{arith}
-use native.Mathlib.Decide.{decLt, decLe}
-use borrow.Author.Tests.{lt-ltb, le-ltb, le-leb, lt-leb, eqb-true, leb-true}
-use lib.Dec.{leb, eqb, lit<, lit≤}
+use native.Mathlib.Decide.{decLe}
+use borrow.Author.Tests.{le-leb, lt-leb, eqb-true, leb-true}
+use lib.Dec.{leb, eqb, lit<}
 use lib.ListN.{length, take, drop, length-append, length-replicate, length-take, length-drop}
 use Rattle.simd.specs.Basic.{isWidth, digestBytes}
-use Rattle.text.specs.Text.{digits, decimal, hex}
-use Rattle.text.proofs.Words.{length-hex}
+use Rattle.text.specs.Text.{decimal, hex}
+use Rattle.text.proofs.Words.{length-hex, length-decimal}
 use Rattle.hash.proofs.Feeding.{at-widths}
+use Rattle.hash.proofs.Digests.{digest-bounds}
 use Rattle.hash.proofs.Refusing.{passed}
 use Rattle.ledger.specs.Page.{spaces, right, left, line, numberColumns, widthColumns, front, entryLines, entryBytes, entryRefusal}
 
@@ -36,28 +37,6 @@ length-line first digits eleven fits =
       length-left 64 digits fits,
     )
 
--- A number below 10^j has at most j digits.
-digits-short : (k j n : ℕ) → n < 10 ^ j → 0 < j → length (digits k n) ≤ j
-unfolding digits
-digits-short zero j n below some = omega arith
-digits-short (suc k) zero n below some = absurd (omega arith)
-digits-short (suc k) (suc zero) n below some = rw (lt-ltb n 10 below) (omega arith)
-digits-short (suc k) (suc (suc j)) n below some =
-    elim (decLt n 10) [
-      | yes small ↦ rw (lt-ltb n 10 small) (omega arith)
-      | no large ↦
-          rw (le-ltb n 10 (omega arith))
-          (omega (
-            arith,
-            length-append (digits k (n / 10)) ((48 + n % 10) ∷ []),
-            digits-short k (suc j) (n / 10) (omega arith) (omega arith),
-          ))
-    ]
-
-pub length-decimal : (j n : ℕ) → n < 10 ^ j → 0 < j → length (decimal n) ≤ j
-unfolding decimal
-length-decimal j n below some = digits-short 20 j n below some
-
 pub length-number : (number : ℕ) → number < 1000000 → length (numberColumns number) ≡ 6
 unfolding numberColumns
 length-number number below = length-right 6 _ (length-decimal 6 _ (omega arith) (omega arith))
@@ -79,9 +58,6 @@ pub record Facts (number width : ℕ) (digest : List ℕ) : Type 0 where
 width-small : (width : ℕ) → isWidth width ≡ true → width < 1000
 width-small = at-widths (λ (w : ℕ). w < 1000) (lit< tt) (lit< tt) (lit< tt) (lit< tt)
 
-digest-small : (width : ℕ) → isWidth width ≡ true → digestBytes width ≤ 64
-digest-small = at-widths (λ (w : ℕ). digestBytes w ≤ 64) (lit≤ tt) (lit≤ tt) (lit≤ tt) (lit≤ tt)
-
 pub facts : (number width : ℕ) (digest : List ℕ) → entryRefusal number width digest ≡ 0 → Facts number width digest
 unfolding entryRefusal
 facts number width digest none =
@@ -98,7 +74,7 @@ facts number width digest none =
       width-short = length-decimal 3 width (omega arith) (omega arith);
       number-below = omega arith;
       width-below = narrow;
-      two-lines = omega (arith, length-hex digest, digest-small width (one .0));
+      two-lines = omega (arith, length-hex digest, digest-bounds width (one .0) .0);
     }
 
 module _ (number width : ℕ) (digest : List ℕ) (f : Facts number width digest) where

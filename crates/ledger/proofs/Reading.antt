@@ -8,7 +8,8 @@ use native.Mathlib.Decide.{decLt}
 use borrow.Author.Tests.{lt-ltb, le-ltb}
 use lib.Dec.{ltb}
 use lib.ListN.{length, getD}
-use Rattle.text.specs.Text.{digits, decimal, glyph, hex}
+use Rattle.text.specs.Text.{digits, decimal, glyph, hex, digitOf}
+use Rattle.text.proofs.HexDigits.{digit-glyph}
 use Rattle.ledger.specs.Page.{spaces, right, numberColumns, widthColumns}
 
 -- Spaces are passed over; any other byte is the next digit.
@@ -58,21 +59,10 @@ unfolding widthColumns
 width-told width below = value-right 3 _ (omega arith)
 
 -- The bytes of a text of hexadecimal digits.
-unfoldable digitOf : ℕ → ℕ
-digitOf c = cond (ltb c 58) (c - 48) (c - 87)
-
 unfoldable unhex : List ℕ → List ℕ
 unhex [] = []
 unhex (a ∷ []) = []
 unhex (a ∷ b ∷ text) = (16 * digitOf a + digitOf b) ∷ unhex text
-
-digit-glyph : (d : ℕ) → d < 16 → digitOf (glyph d) ≡ d
-unfolding digitOf glyph
-digit-glyph d below =
-    elim (decLt d 10) [
-      | yes small ↦ rw (lt-ltb d 10 small, lt-ltb (48 + d) 58 (omega arith)) (omega arith)
-      | no large ↦ rw (le-ltb d 10 (omega arith), le-ltb (87 + d) 58 (omega arith)) (omega arith)
-    ]
 
 unhex-hex : (bytes : List ℕ) → ((i : ℕ) → getD bytes i 0 < 256) → unhex (hex bytes) ≡ bytes
 unfolding unhex hex

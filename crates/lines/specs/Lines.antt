@@ -1,8 +1,8 @@
 -- The lines that `seal` prints.
 use mathlib.Core.List.{List, [], _∷_, _++_}
 use Prim.Native.Nat.{ℕ}
-use lib.ListN.{take}
 use Rattle.text.specs.Text.{decimal, hex}
+use Rattle.check_digits.specs.Quote.{quote}
 
 -- Words with single spaces between, and the end of the line.
 unfoldable pub line : List (List ℕ) → List ℕ
@@ -23,9 +23,9 @@ refusedWord = 114 ∷ 101 ∷ 102 ∷ 117 ∷ 115 ∷ 101 ∷ 100 ∷ []
 abbrev pub atWord : List ℕ
 atWord = 97 ∷ 116 ∷ []
 
--- `digest`, its number, its width, the digest and its quote, the first 8 hexadecimal digits.
+-- `digest`, its number, its width, the digest and its quote.
 unfoldable pub digestLine : ℕ → ℕ → List ℕ → List ℕ
-digestLine number width digest = line (digestWord ∷ decimal number ∷ decimal width ∷ hex digest ∷ take 8 (hex digest) ∷ [])
+digestLine number width digest = line (digestWord ∷ decimal number ∷ decimal width ∷ hex digest ∷ quote digest ∷ [])
 
 -- `done` and the count of digests.
 unfoldable pub doneLine : ℕ → List ℕ

@@ -7,7 +7,7 @@ ghost use Rattle.lines.specs.Lines.{digestLine, doneLine, refusedLine};
 
 // Line k of the digests: `digest`, k, the width, the digest and its quote.
 pub fn digest_line(text: &mut [u8], number: usize, width: u16, digest: &[u8]) -> usize
-    requires { ⌜ (192 ≤ length (now text)) × (4 ≤ length (now digest)) × (length (now digest) ≤ 64) ⌝ }
+    requires { ⌜ (192 ≤ length (now text)) × (8 ≤ length (now digest)) × (length (now digest) ≤ 64) ⌝ }
     ensures { λ r. ⌜ (now (text .exit) ≡ over (now (text .entry)) 0 (digestLine number width (now (digest .entry))))
         × (r ≡ length (digestLine number width (now (digest .entry)))) ⌝ }
 {
@@ -15,7 +15,9 @@ pub fn digest_line(text: &mut [u8], number: usize, width: u16, digest: &[u8]) ->
     let b = text::decimal(text, a, number as u64, 32);
     let c = text::decimal(text, b, width as u64, 32);
     let d = text::hex(text, c, digest, 32);
-    text::hex(text, d, &digest[..4], 10)
+    let e = quote_text::write(text, d, digest);
+    text[e] = 10;
+    e + 1
 }
 
 pub fn done_line(text: &mut [u8], count: usize) -> usize

@@ -12,12 +12,11 @@ use Rattle.simd.specs.Hash.{digest}
 use Rattle.text.specs.Text.{over}
 use Rattle.text.proofs.Over.{length-over}
 use Rattle.lines.specs.Lines.{digestLine}
-use Rattle.hash.proofs.Digests.{length-digest}
+use Rattle.hash.proofs.Digests.{length-digest, digest-bounds}
 use Rattle.commands.specs.Effect.{closed}
 use Rattle.tape.specs.Run.{Entry, Run, ended, first, runFrom, within, runInto, nextOf, firstOutput, output}
 use Rattle.tape.specs.declared.Next.{Next}
 use Rattle.tape.specs.declared.Next.the-variants.{Taken, Ended}
-use Rattle.tape.proofs.Finishing.{fits-64}
 use Rattle.tape.proofs.Entries.{First, none, some, run-first}
 use Rattle.tape.proofs.Done.{Took, took, within-ended, within-fits}
 use Rattle.listing.specs.Listing.{sealed, lineOf, textOf}
@@ -42,7 +41,7 @@ module _ (tape : List ℕ) (at : ℕ) where
       let b : p ≡ place = cc in
       e ∙ λ i. ended (a i) (b i)
   ended-by number place told (some e known from below later) =
-      let here = ap (within 64) later ∙ within-fits 64 e (runFrom tape (e .place + 1) closed) (fits-64 (e .width) known .0) in
+      let here = ap (within 64) later ∙ within-fits 64 e (runFrom tape (e .place + 1) closed) (digest-bounds (e .width) known .0) in
       let this : Ended number place ≡ Taken (e .width) (e .place + 1) = told ∙ ap nextOf here in
       let no : _≡_ {A = ℕ} 0 1 = cc in
       absurd (omega arith)
@@ -50,7 +49,7 @@ module _ (tape : List ℕ) (at : ℕ) where
 -- The digest lies at the front of the 64 bytes lent.
 pub record Lent (tape : List ℕ) (at width next : ℕ) (buffer : List ℕ) : Type 0 where
   pub took : Took tape at 64 width next
-  pub small : (digestBytes width ≤ 64) × (4 ≤ digestBytes width)
+  pub small : (digestBytes width ≤ 64) × (8 ≤ digestBytes width)
   pub long : length buffer ≡ 64
   pub bytes : take (digestBytes width) buffer ≡ digest (took .entry .width) (took .entry .fed)
   pub size : length (take (digestBytes width) buffer) ≡ digestBytes width
@@ -63,7 +62,7 @@ lent tape at width next z buffer room told wrote =
     let t = took tape at 64 (told ∙ ap (λ (k : ℕ). nextOf (runInto k tape at)) (sym room)) in
     let e = t .entry in
     let s = digest (e .width) (e .fed) in
-    let small = fits-64 width (t .known) in
+    let small = digest-bounds width (t .known) in
     let size : length s ≡ digestBytes width = length-digest (e .width) (rw (t .of) (t .known)) (e .fed) ∙ ap digestBytes (t .of) in
     let all : buffer ≡ over z 0 s =
     wrote

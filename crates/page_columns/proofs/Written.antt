@@ -3,10 +3,9 @@ use mathlib.Core.List.{List, [], _∷_, _++_, append-assoc}
 use mathlib.Core.Path.{_≡_, sym, ap, _∙_}
 use Prim.Native.Nat.{ℕ, _+_, _*_, _-_, _≤_, _<_}
 use native.Mathlib.Omega.{arith}
-use lib.ListN.{length, take, drop, set, replicate, length-append, length-replicate, replicate-append-replicate}
-use lib.Seq.{length-take-le, take-at, drop-drop, drop-append-add}
+use lib.ListN.{length, set, replicate, length-append, length-replicate, replicate-append-replicate}
 use Rattle.text.specs.Text.{over, decimal, hex}
-use Rattle.text.proofs.Over.{length-over, over-over, over-byte}
+use Rattle.text.proofs.Over.{length-over, over-byte, over-end}
 use Rattle.text.proofs.Words.{length-hex}
 use Rattle.ledger.specs.Page.{spaces, right, left}
 
@@ -15,31 +14,6 @@ pub fill-more : (t : List ℕ) (at i byte : ℕ) → at + i < length t → set (
 fill-more t at i byte fits =
     over-byte t at (replicate i byte) byte (at + i) (omega (arith, length-replicate {A = ℕ} i byte)) fits
     ∙ ap (over t at) (replicate-append-replicate i 1 byte)
-
--- A text that is written over by one of at least its length.
-over-anew :
-    (t : List ℕ) (at : ℕ) (old s : List ℕ) → length old ≤ length s → at + length s ≤ length t → over (over t at old) at s ≡ over t at s
-over-anew t at old s hidden fits =
-    let n = at + length old in
-    let p = take at t ++ old in
-    let k = length s - length old in
-    let front : length (take at t) ≡ at = length-take-le at t (omega arith) in
-    let size : length p ≡ n = omega (arith, length-append (take at t) old) in
-    let head : take at (over t at old) ≡ take at t =
-    ap (take at) (append-assoc (take at t) old (drop n t)) ∙ take-at (take at t) (old ++ drop n t) at front in
-    let count : at + length s ≡ length p + k = omega arith in
-    let end : n + k ≡ at + length s = omega arith in
-    let tail : drop (at + length s) (over t at old) ≡ drop (at + length s) t =
-    ap (λ (m : ℕ). drop m (p ++ drop n t)) count ∙ drop-append-add p (drop n t) k ∙ drop-drop k n t ∙ ap (λ (m : ℕ). drop m t) end in
-    λ i. head i ++ s ++ tail i
-
--- A text whose end is written over.
-over-end : (t : List ℕ) (at : ℕ) (a old s : List ℕ) → length old ≤ length s → at + length a + length s ≤ length t
-    → over (over t at (a ++ old)) (at + length a) s ≡ over t at (a ++ s)
-over-end t at a old s hidden fits =
-    ap (λ (x : List ℕ). over x (at + length a) s) (sym (over-over t at a old (omega arith)))
-    ∙ over-anew (over t at a) (at + length a) old s hidden (omega (arith, length-over t at a (omega arith)))
-    ∙ over-over t at a s (omega arith)
 
 -- A number: spaces, and over the last of them the digits and the space behind these.
 module _ (t : List ℕ) (at columns n : ℕ) (few : length (decimal n) ≤ columns) (fits : at + columns + 1 ≤ length t) where

@@ -1,6 +1,7 @@
 // The door for C: each call is total, returns the refusal's number or 0, and on a refusal leaves all that it was lent as it was;
 // a tape keeps the digests before the refused command, and its count and place are told.
 // include/simd.h is its manual. The hash travels as its stored form.
+ghost use mathlib.Core.Bool.{cond};
 ghost use mathlib.Core.Path.{_≡_};
 ghost use lib.ListN.{length};
 ghost use Rattle.simd.specs.Message.{message as messageOf};
@@ -18,6 +19,8 @@ ghost use Rattle.stepping.specs.Call.{stepsRefusal, stepsOutput, forward, backw
 ghost use Rattle.tape.specs.Run.{ranOf, output};
 ghost use Rattle.text.specs.Text.{over};
 ghost use Rattle.ledger.specs.Page.{entryLines, printRefusal};
+ghost use Rattle.check_digits.specs.Quote.{quote as quoteOf, isRight};
+ghost use Rattle.quote.specs.Call.{quoteRefusal};
 ghost use Rattle.simd_c_forms.specs.Calls.{stored, openedHash, openCall, fedFrom, feedCall, takeCall};
 ghost use Rattle.simd_c_hmac.specs.Calls.{openedHmac, openCall as openKeyed, fedFrom as fedKeyed, feedCall as feedKeyed, takeCall as takeKeyed};
 ghost use Rattle.simd_c_hmac.specs.Calls.{checkCall, yes};
@@ -183,4 +186,21 @@ pub extern "C" fn simd_page_entry(number: u64, width: u16, digest: &[u8], out: &
         (entryLines number width (now (digest .entry))) (now (out .entry)) ⌝ }
 {
     page::entry(number, width, digest, out)
+}
+
+#[no_mangle]
+pub extern "C" fn simd_quote(width: u16, digest: &[u8], out: &mut [u8]) -> u8
+    ensures { λ r. ⌜ r ≡ quoteRefusal width (now (digest .entry)) (length (now (out .entry))) ⌝ }
+    ensures { λ r. ⌜ now (out .exit) ≡ written (quoteRefusal width (now (digest .entry)) (length (now (out .entry))))
+        (quoteOf (now (digest .entry))) (now (out .entry)) ⌝ }
+{
+    quote::quote(width, digest, out)
+}
+
+#[no_mangle]
+pub extern "C" fn simd_quote_check(quote: &[u8], right: &mut u64) -> u8
+    ensures { λ r. ⌜ r ≡ 0 ⌝ }
+    ensures { λ r. ⌜ now (right .exit) ≡ cond (isRight (now (quote .entry))) 1 0 ⌝ }
+{
+    simd_c_answers::check_quote(quote, right)
 }

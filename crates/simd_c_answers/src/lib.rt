@@ -1,8 +1,11 @@
-// The calls for C whose answer is numbers behind pointers: the verdict on two messages, and the count and the place of a tape.
+// The calls for C whose answer is numbers behind pointers: the verdict on two messages, the count and the place of a tape, and whether a quote is
+// right.
+ghost use mathlib.Core.Bool.{cond};
 ghost use mathlib.Core.Path.{_≡_};
 ghost use Rattle.pairs.specs.Answer.{answer};
 ghost use Rattle.tape.specs.Run.{ranOf, output};
 ghost use Rattle.text.specs.Text.{over};
+ghost use Rattle.check_digits.specs.Quote.{isRight};
 ghost use Rattle.simd_c_answers.specs.Calls.{refusalOf, verdictAfter, blockAfter, runWithin, placed};
 use pairs::Verdict;
 
@@ -56,4 +59,17 @@ pub fn run_tape(tape: &[u8], out: &mut [u8], count: &mut u64, place: &mut u64) -
         *place = ran.place as u64;
     }
     refusal
+}
+
+// A quote checked: 1 where it is right, else 0. Nothing is refused.
+pub fn check_quote(quote: &[u8], right: &mut u64) -> u8
+    ensures { λ r. ⌜ r ≡ 0 ⌝ }
+    ensures { λ r. ⌜ now (right .exit) ≡ cond (isRight (now (quote .entry))) 1 0 ⌝ }
+{
+    if quote_text::is_right(quote) {
+        *right = 1;
+    } else {
+        *right = 0;
+    }
+    0
 }

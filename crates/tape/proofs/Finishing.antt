@@ -7,7 +7,7 @@ use native.Mathlib.Nat.{zero-add}
 use native.Mathlib.Omega.{arith}
 use native.Mathlib.Decide.{decLe}
 use borrow.Author.Tests.{le-leb, lt-leb}
-use lib.Dec.{leb, lit≤}
+use lib.Dec.{leb}
 use lib.ListN.{length, take, drop, length-take}
 use lib.Seq.{length-take-le, take-at}
 use Rattle.simd.specs.Basic.{isWidth, digestBytes}
@@ -15,8 +15,7 @@ use Rattle.simd.specs.Hash.{digest}
 use Rattle.hash.specs.Open.{digestOf, takeRefusal, taken, takeAnswer, written}
 use Rattle.hash.specs.declared.Hash.{Hash}
 use Rattle.hash.specs.declared.Taken.{Taken as Answer}
-use Rattle.hash.proofs.Feeding.{at-widths}
-use Rattle.hash.proofs.Digests.{digest-length}
+use Rattle.hash.proofs.Digests.{digest-length, digest-bounds}
 use Rattle.hash_theorems.proofs.Theorems.{after-digest}
 use Rattle.text.specs.Text.{over}
 use Rattle.text.proofs.Over.{over-nil}
@@ -24,12 +23,6 @@ use Rattle.commands.specs.Standing.{Stands}
 use Rattle.commands.proofs.Standings.{stands-width, stands-legal}
 use Rattle.tape.specs.Standing.{Finishes}
 use Rattle.tape.specs.declared.Next.the-variants.{Taken, Ended}
-
--- Any digest fits 64 bytes.
-pub fits-64 : (width : ℕ) → isWidth width ≡ true → (digestBytes width ≤ 64) × (4 ≤ digestBytes width)
-fits-64 =
-    at-widths (λ (w : ℕ). (digestBytes w ≤ 64) × (4 ≤ digestBytes w))
-    (lit≤ tt, lit≤ tt) (lit≤ tt, lit≤ tt) (lit≤ tt, lit≤ tt) (lit≤ tt, lit≤ tt)
 
 module _ {width : ℕ} {m : List ℕ} {hash : Hash} (s : Stands width m hash) where
   stands-digest : digestOf hash ≡ digest width m
@@ -80,8 +73,8 @@ pub record Copied (hash : Hash) (out exit : List ℕ) (a : Answer) : Type 0 wher
 
 module _ {hash : Hash} {out exit : List ℕ} {a : Answer} (copied : Copied hash out exit a) where
   module _ {w : ℕ} {m : List ℕ} (st : Stands w m hash) where
-    sized : (digestBytes w ≤ 64) × (4 ≤ digestBytes w)
-    sized = fits-64 w (st .known)
+    sized : (digestBytes w ≤ 64) × (8 ≤ digestBytes w)
+    sized = digest-bounds w (st .known)
 
     number : a .refusal ≡ takeAnswer hash (take (copied .size) (copied .room)) .refusal
     number = ap (λ (t : Answer). t .refusal) (copied .answer)

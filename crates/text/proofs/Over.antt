@@ -1,7 +1,7 @@
 -- Laws of `over`, a buffer with a string written at a place.
 use mathlib.Core.List.{List, [], _∷_, _++_, append-assoc, append-nil}
 use mathlib.Core.Path.{_≡_, sym, ap, _∙_}
-use Prim.Native.Nat.{ℕ, suc, _+_, _≤_, _<_}
+use Prim.Native.Nat.{ℕ, suc, _+_, _-_, _≤_, _<_}
 use native.Mathlib.Nat.{add-zero, zero-add}
 use native.Mathlib.Numerals.{add-one}
 use native.Mathlib.Omega.{arith}
@@ -96,3 +96,28 @@ wrote-more {t} {a} {m = m} w b second more fits =
 pub over-part : (t : List ℕ) (k : ℕ) (s : List ℕ) → k + length s ≤ length t → take k t ++ over (drop k t) 0 s ≡ over t k s
 over-part t k s fits =
     rw (zero-add (length s), drop-drop (length s) k t) (sym (append-assoc (take k t) s (drop (k + length s) t)))
+
+-- A text that is written over by one of at least its length.
+over-anew :
+    (t : List ℕ) (at : ℕ) (old s : List ℕ) → length old ≤ length s → at + length s ≤ length t → over (over t at old) at s ≡ over t at s
+over-anew t at old s hidden fits =
+    let n = at + length old in
+    let p = take at t ++ old in
+    let k = length s - length old in
+    let front : length (take at t) ≡ at = length-take-le at t (omega arith) in
+    let size : length p ≡ n = omega (arith, length-append (take at t) old) in
+    let head : take at (over t at old) ≡ take at t =
+    ap (take at) (append-assoc (take at t) old (drop n t)) ∙ take-at (take at t) (old ++ drop n t) at front in
+    let count : at + length s ≡ length p + k = omega arith in
+    let end : n + k ≡ at + length s = omega arith in
+    let tail : drop (at + length s) (over t at old) ≡ drop (at + length s) t =
+    ap (λ (m : ℕ). drop m (p ++ drop n t)) count ∙ drop-append-add p (drop n t) k ∙ drop-drop k n t ∙ ap (λ (m : ℕ). drop m t) end in
+    λ i. head i ++ s ++ tail i
+
+-- A text whose end is written over.
+pub over-end : (t : List ℕ) (at : ℕ) (a old s : List ℕ) → length old ≤ length s → at + length a + length s ≤ length t
+    → over (over t at (a ++ old)) (at + length a) s ≡ over t at (a ++ s)
+over-end t at a old s hidden fits =
+    ap (λ (x : List ℕ). over x (at + length a) s) (sym (over-over t at a old (omega arith)))
+    ∙ over-anew (over t at a) (at + length a) old s hidden (omega (arith, length-over t at a (omega arith)))
+    ∙ over-over t at a s (omega arith)

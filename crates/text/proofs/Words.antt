@@ -2,15 +2,16 @@
 use mathlib.Core.Bool.{Bool, true, false, cond}
 use mathlib.Core.List.{List, [], _∷_, _++_, append-assoc}
 use mathlib.Core.Path.{_≡_, refl, ap, _∙_}
-use Prim.Native.Nat.{ℕ, zero, suc, _+_, _-_, _*_, _/_, _%_, _≤_, _<_}
+use Prim.Native.Nat.{ℕ, zero, suc, _+_, _-_, _*_, _/_, _%_, _^_, _≤_, _<_}
 use native.Mathlib.Nat.{not-suc-le-zero}
 use native.Mathlib.Numerals.{add-one}
 use native.Mathlib.Omega.{arith}
+use native.Mathlib.Decide.{decLt}
 use borrow.Author.Tests.{lt-ltb, le-ltb}
 use lib.Dec.{ltb}
 use lib.ListN.{length, getD, take, length-append}
 use lib.Seq.{take-suc}
-use Rattle.text.specs.Text.{digits, glyph, hex}
+use Rattle.text.specs.Text.{digits, decimal, glyph, hex}
 
 -- The two digits of a byte.
 abbrev pub pair : ℕ → List ℕ
@@ -57,3 +58,25 @@ digits-more (suc k) n large some =
 pub digits-none : (k n : ℕ) → k ≡ 0 → digits k n ≡ []
 unfolding digits
 digits-none k n e = ap (λ (j : ℕ). digits j n) e
+
+-- A number below 10^j has at most j digits.
+digits-short : (k j n : ℕ) → n < 10 ^ j → 0 < j → length (digits k n) ≤ j
+unfolding digits
+digits-short zero j n below some = omega arith
+digits-short (suc k) zero n below some = absurd (omega arith)
+digits-short (suc k) (suc zero) n below some = rw (lt-ltb n 10 below) (omega arith)
+digits-short (suc k) (suc (suc j)) n below some =
+    elim (decLt n 10) [
+      | yes small ↦ rw (lt-ltb n 10 small) (omega arith)
+      | no large ↦
+          rw (le-ltb n 10 (omega arith))
+          (omega (
+            arith,
+            length-append (digits k (n / 10)) ((48 + n % 10) ∷ []),
+            digits-short k (suc j) (n / 10) (omega arith) (omega arith),
+          ))
+    ]
+
+pub length-decimal : (j n : ℕ) → n < 10 ^ j → 0 < j → length (decimal n) ≤ j
+unfolding decimal
+length-decimal j n below some = digits-short 20 j n below some

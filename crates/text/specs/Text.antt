@@ -1,8 +1,8 @@
 -- Numbers and bytes as text, a list of ASCII codes.
-use mathlib.Core.Bool.{cond}
+use mathlib.Core.Bool.{cond, _&&_}
 use mathlib.Core.List.{List, [], _∷_, _++_}
-use Prim.Native.Nat.{ℕ, zero, suc, _+_, _/_, _%_}
-use lib.Dec.{ltb}
+use Prim.Native.Nat.{ℕ, zero, suc, _+_, _-_, _/_, _%_}
+use lib.Dec.{ltb, leb}
 use lib.ListN.{length, take, drop}
 
 -- A buffer with s written at a place.
@@ -25,3 +25,7 @@ glyph d = cond (ltb d 10) (48 + d) (87 + d)
 unfoldable pub hex : List ℕ → List ℕ
 hex [] = []
 hex (b ∷ bytes) = glyph (b / 16) ∷ glyph (b % 16) ∷ hex bytes
+
+-- The value of a hexadecimal digit in lower case; 16 for any other character.
+unfoldable pub digitOf : ℕ → ℕ
+digitOf c = cond (leb 48 c && leb c 57) (c - 48) (cond (leb 97 c && leb c 102) (c - 87) 16)

@@ -3,7 +3,7 @@ ghost use mathlib.Core.Path.{_≡_};
 ghost use mathlib.Core.List.{[], _∷_, _++_};
 ghost use Prim.Native.Nat.{_+_, _*_, _≤_, _<_};
 ghost use lib.ListN.{length};
-ghost use Rattle.text.specs.Text.{over, digits as digitsOf, decimal as decimalOf, glyph as glyphOf, hex as hexOf};
+ghost use Rattle.text.specs.Text.{over, digits as digitsOf, decimal as decimalOf, glyph as glyphOf, hex as hexOf, digitOf};
 
 pub fn put(text: &mut [u8], at: usize, s: &[u8]) -> usize
     requires { ⌜ at + length (now s) ≤ length (now text) ⌝ }
@@ -44,7 +44,7 @@ fn digits(text: &mut [u8], at: usize, most: usize, n: u64) -> usize
     next + 1
 }
 
-fn digit(d: u64) -> u8
+pub fn digit(d: u64) -> u8
     requires { ⌜ d < 10 ⌝ }
     ensures { λ r. ⌜ r ≡ 48 + d ⌝ }
 {
@@ -73,4 +73,23 @@ fn glyph(d: u8) -> u8
     ensures { λ r. ⌜ r ≡ glyphOf d ⌝ }
 {
     if d < 10 { 48 + d } else { 87 + d }
+}
+
+// The value of a hexadecimal digit in lower case; 16 for any other character.
+pub fn digit_of(c: u8) -> u64
+    ensures { λ r. ⌜ (r ≡ digitOf c) × (r ≤ 16) ⌝ }
+{
+    if c < 48 {
+        return 16;
+    }
+    if c <= 57 {
+        return c as u64 - 48;
+    }
+    if c < 97 {
+        return 16;
+    }
+    if c <= 102 {
+        return c as u64 - 87;
+    }
+    16
 }

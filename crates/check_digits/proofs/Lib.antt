@@ -1,0 +1,4 @@
+pub mod Modulo
+pub mod Kind
+pub mod Right
+pub mod Theorems
