@@ -8,7 +8,7 @@ use borrow.Author.Tests.{lt-ltb, ltb-true}
 use lib.Dec.{ltb}
 use lib.ListN.{length, getD}
 use Rattle.text.specs.Text.{glyph, hex, digitOf}
-use Rattle.text.proofs.HexDigits.{digit-glyph, decimal-read}
+use Rattle.text.proofs.HexDigits.{byte-read, decimal-read}
 use Rattle.check_digits.specs.Quote.{check, twoDigits, digitsBelow}
 
 pub both : (a b : Bool) → (a && b) ≡ true → (a ≡ true) × (b ≡ true)
@@ -28,8 +28,7 @@ unfolding hex digitsBelow
 hex-digits [] below = refl
 hex-digits (b ∷ bytes) below =
     let small : b < 256 = below 0 in
-    let high = digit-glyph (b / 16) (omega arith) in
-    let low = digit-glyph (b % 16) (omega arith) in
+    let digits = byte-read b small in
     rw (lt-ltb (digitOf (glyph (b / 16))) 16 (omega arith), lt-ltb (digitOf (glyph (b % 16))) 16 (omega arith))
     (hex-digits bytes (λ i. below (suc i)))
 

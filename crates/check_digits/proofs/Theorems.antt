@@ -1,6 +1,6 @@
 -- What holds of all quotes: that of a digest is right, and no slip of one digit or of two neighbours is.
 use mathlib.Core.Bool.{Bool, true, false}
-use mathlib.Core.List.{List, _++_}
+use mathlib.Core.List.{List}
 use mathlib.Core.Logic.{_≢_}
 use mathlib.Core.Path.{_≡_, refl, sym, ap, _∙_}
 use Prim.Native.Nat.{ℕ, suc, _+_, _/_, _%_, _<_, _≤_}
@@ -89,7 +89,8 @@ module _ (text : List ℕ) (right : isRight text ≡ true) where
       let y = getD text (suc i) 0 in
       let o = parts (exchanged text i) e in
       let kept : (j : ℕ) → 15 < j → getD (exchanged text i) j 0 ≡ getD text j 0 =
-      λ j far. getD-set-other (set text i y) (suc i) j x 0 (λ (k : j ≡ suc i). omega arith) ∙ getD-set-other text i j y 0 (λ (k : j ≡ i). omega arith) in
+      λ j far.
+      getD-set-other (set text i y) (suc i) j x 0 (λ (k : j ≡ suc i). omega arith) ∙ getD-set-other text i j y 0 (λ (k : j ≡ i). omega arith) in
       let at-i : getD (take 16 text) i 0 ≡ x = getD-take 16 text i 0 (omega arith) in
       let at-next : getD (take 16 text) (suc i) 0 ≡ y = getD-take 16 text (suc i) 0 inside in
       let front : take 16 (exchanged text i) ≡ exchanged (take 16 text) i =

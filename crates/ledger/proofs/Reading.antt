@@ -9,7 +9,7 @@ use borrow.Author.Tests.{lt-ltb, le-ltb}
 use lib.Dec.{ltb}
 use lib.ListN.{length, getD}
 use Rattle.text.specs.Text.{digits, decimal, glyph, hex, digitOf}
-use Rattle.text.proofs.HexDigits.{digit-glyph}
+use Rattle.text.proofs.HexDigits.{byte-read}
 use Rattle.ledger.specs.Page.{spaces, right, numberColumns, widthColumns}
 
 -- Spaces are passed over; any other byte is the next digit.
@@ -68,9 +68,7 @@ unhex-hex : (bytes : List ℕ) → ((i : ℕ) → getD bytes i 0 < 256) → unhe
 unfolding unhex hex
 unhex-hex [] below = refl
 unhex-hex (b ∷ bytes) below =
-    let small : b < 256 = below 0 in
-    let one = digit-glyph (b / 16) (omega arith) in
-    let two = digit-glyph (b % 16) (omega arith) in
+    let digits = byte-read b (below 0) in
     let same : 16 * digitOf (glyph (b / 16)) + digitOf (glyph (b % 16)) ≡ b = omega arith in
     λ i. same i ∷ unhex-hex bytes (λ k. below (suc k)) i
 

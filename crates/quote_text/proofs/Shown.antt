@@ -31,7 +31,8 @@ remainder-more digits k left byte inside before here =
     let n = number (take (2 * k) digits) in
     let one = number-next digits (2 * k) (omega arith) in
     let two = number-next digits (suc (2 * k)) (omega arith) in
-    let second : digitOf (getD digits (2 * k + 1) 0) ≡ digitOf (getD digits (suc (2 * k)) 0) = ap (λ (j : ℕ). digitOf (getD digits j 0)) (add-one (2 * k)) in
+    let second : digitOf (getD digits (2 * k + 1) 0) ≡ digitOf (getD digits (suc (2 * k)) 0) =
+    ap (λ (j : ℕ). digitOf (getD digits j 0)) (add-one (2 * k)) in
     let end : suc (suc (2 * k)) ≡ 2 * (k + 1) = omega arith in
     let all : number (take (2 * (k + 1)) digits) ≡ 256 * n + byte =
     ap (λ (j : ℕ). number (take j digits)) (sym end) ∙ omega (arith, one, two, second, here) in

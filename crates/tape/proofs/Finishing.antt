@@ -1,5 +1,5 @@
 -- The digest of a TAKE: taken into local bytes, and from there written to the output.
-use mathlib.Core.Bool.{true, cond}
+use mathlib.Core.Bool.{cond}
 use mathlib.Core.List.{List, _++_, append-assoc}
 use mathlib.Core.Path.{_≡_, sym, ap, _∙_}
 use Prim.Native.Nat.{ℕ, _+_, _≤_, _<_}
@@ -10,7 +10,7 @@ use borrow.Author.Tests.{le-leb, lt-leb}
 use lib.Dec.{leb}
 use lib.ListN.{length, take, drop, length-take}
 use lib.Seq.{length-take-le, take-at}
-use Rattle.simd.specs.Basic.{isWidth, digestBytes}
+use Rattle.simd.specs.Basic.{digestBytes}
 use Rattle.simd.specs.Hash.{digest}
 use Rattle.hash.specs.Open.{digestOf, takeRefusal, taken, takeAnswer, written}
 use Rattle.hash.specs.declared.Hash.{Hash}

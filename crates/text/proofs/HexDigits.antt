@@ -1,7 +1,6 @@
 -- Hexadecimal digits read back: a digit that was written has its value, and a value is that of one character.
-use mathlib.Core.Bool.{_&&_}
 use mathlib.Core.Path.{_≡_, refl, sym, ap, _∙_}
-use Prim.Native.Nat.{ℕ, _+_, _-_, _≤_, _<_}
+use Prim.Native.Nat.{ℕ, _+_, _-_, _/_, _%_, _≤_, _<_}
 use native.Mathlib.Omega.{arith}
 use native.Mathlib.Decide.{decLt}
 use borrow.Author.Tests.{lt-ltb, le-ltb, le-leb, lt-leb}
@@ -29,13 +28,17 @@ module _ (c : ℕ) where
   unfolding digitOf
   above-digits high = rw (le-leb 48 c (omega arith), lt-leb c 57 (omega arith), le-leb 97 c (omega arith), lt-leb c 102 high) refl
 
-pub digit-glyph : (d : ℕ) → d < 16 → digitOf (glyph d) ≡ d
+digit-glyph : (d : ℕ) → d < 16 → digitOf (glyph d) ≡ d
 unfolding glyph
 digit-glyph d below =
     elim (decLt d 10) [
       | yes small ↦ rw (lt-ltb d 10 small) (omega (arith, decimal-digit (48 + d) (omega arith) (omega arith)))
       | no large ↦ rw (le-ltb d 10 (omega arith)) (omega (arith, letter-digit (87 + d) (omega arith) (omega arith)))
     ]
+
+-- The two digits of a byte.
+pub byte-read : (b : ℕ) → b < 256 → (digitOf (glyph (b / 16)) ≡ b / 16) × (digitOf (glyph (b % 16)) ≡ b % 16)
+byte-read b below = (digit-glyph (b / 16) (omega arith), digit-glyph (b % 16) (omega arith))
 
 pub decimal-read : (d : ℕ) → d < 10 → digitOf (48 + d) ≡ d
 decimal-read d below = omega (arith, decimal-digit (48 + d) (omega arith) (omega arith))

@@ -1,6 +1,6 @@
 -- 100 times the remainder leaves what 100 times the number does.
 use mathlib.Core.Path.{sym, ap, _∙_}
-use Prim.Native.Nat.{_+_, _-_, _*_, _%_}
+use Prim.Native.Nat.{_-_, _*_, _%_}
 use native.Mathlib.Nat.{add-zero}
 use native.Mathlib.Omega.{arith}
 use borrow.Author.Needs.{needs}
