@@ -310,25 +310,26 @@ extern "C" {
 /* The most stack of a call, in bytes, at any width and for all arguments, with
    its arguments and return address.  Rounded up from what was measured and from
    what the machine code can need at all; the library's tests do both again
-   (tests/c/stack.c, tests/c/frames.py). */
+   (tests/c/stack.c, tests/c/frames.py).  Where memcpy and memset are bound only
+   when they are first called, the loader's stack for that comes on top. */
 #define SIMD_STACK_OPEN 1536
-#define SIMD_STACK_FEED 10240
-#define SIMD_STACK_TAKE 9216
-#define SIMD_STACK_HASH 7680
-#define SIMD_STACK_HMAC_OPEN 12288
-#define SIMD_STACK_HMAC_FEED 10752
-#define SIMD_STACK_HMAC_TAKE 12288
-#define SIMD_STACK_HMAC_CHECK 11264
-#define SIMD_STACK_HMAC 13312
-#define SIMD_STACK_EXPAND 4864
-#define SIMD_STACK_STEPS 5632
-#define SIMD_STACK_UNSTEPS 5632
-#define SIMD_STACK_COMPARE 8192
-#define SIMD_STACK_TAPE 10240
+#define SIMD_STACK_FEED 9216
+#define SIMD_STACK_TAKE 8192
+#define SIMD_STACK_HASH 6656
+#define SIMD_STACK_HMAC_OPEN 11264
+#define SIMD_STACK_HMAC_FEED 9728
+#define SIMD_STACK_HMAC_TAKE 11264
+#define SIMD_STACK_HMAC_CHECK 9728
+#define SIMD_STACK_HMAC 12288
+#define SIMD_STACK_EXPAND 3840
+#define SIMD_STACK_STEPS 4608
+#define SIMD_STACK_UNSTEPS 4608
+#define SIMD_STACK_COMPARE 7168
+#define SIMD_STACK_TAPE 9216
 #define SIMD_STACK_PAGE_ENTRY 448
 #define SIMD_STACK_QUOTE 128
 #define SIMD_STACK_QUOTE_CHECK 144
-#define SIMD_STACK_MAX 13312    /* of all calls */
+#define SIMD_STACK_MAX 12288    /* of all calls */
 
 /* REFUSALS */
 

@@ -21,6 +21,14 @@ sum-pairs (suc n) g =
     omega
     (arith, ap (λ v. sum v g) double, sum-suc (suc (2 * n)) g, sum-suc (2 * n) g, sum-pairs n g, sum-suc n (λ s. g (2 * s)), sum-suc n (λ s. g (2 * s + 1)))
 
+-- A whole turn changes no power of 41, and half a turn its sign.
+pub power-whole : (s n : ℕ) → Same (power 41 (256 * s + n)) (power 41 n)
+power-whole s n =
+    same-trans (power-add 41 (256 * s) n) (same-of (ap (λ v. v * power 41 n) (power-multiple 41 256 s order-of-41) ∙ one-mul _))
+
+pub power-half : (n : ℕ) → Same (power 41 (128 + n)) (256 * power 41 n)
+power-half n = same-trans (power-add 41 128 n) (same-of (ap (λ v. v * power 41 n) half-of-41))
+
 module _ (a : ℕ → ℕ) (e m l : ℕ) where
   evens : (k q s : ℕ) → a (q + m * (2 * s)) * power 41 (e * (k * (2 * s))) ≡ a (q + 2 * m * s) * power 41 (2 * e * (k * s))
   evens k q s =
@@ -51,16 +59,13 @@ module _ (a : ℕ → ℕ) (e m l : ℕ) where
     half-turn : (k : ℕ) → Same (power 41 (e * (k + l))) (256 * power 41 (e * k))
     half-turn k =
         let exponent : e * (k + l) ≡ 128 + e * k = omega arith in
-        same-trans (same-of (ap (power 41) exponent))
-        (same-trans (power-add 41 128 (e * k)) (same-of (ap (λ v. v * power 41 (e * k)) half-of-41)))
+        same-trans (same-of (ap (power 41) exponent)) (power-half (e * k))
 
     turned : (k s : ℕ) → Same (power 41 (2 * e * ((k + l) * s))) (power 41 (2 * e * (k * s)))
     turned k s =
         let multiple : e * l * s ≡ 128 * s = ap (λ v. v * s) order in
         let exponent : 2 * e * ((k + l) * s) ≡ 256 * s + 2 * e * (k * s) = omega arith in
-        same-trans (same-of (ap (power 41) exponent))
-        (same-trans (power-add 41 (256 * s) (2 * e * (k * s)))
-        (same-of (ap (λ v. v * power 41 (2 * e * (k * s))) (power-multiple 41 256 s order-of-41) ∙ one-mul _)))
+        same-trans (same-of (ap (power 41) exponent)) (power-whole s (2 * e * (k * s)))
 
     whole-turn : (k q : ℕ) → Same (part a (2 * e) (2 * m) l (k + l) q) (part a (2 * e) (2 * m) l k q)
     unfolding part

@@ -48,17 +48,15 @@ module _ (half i : ℕ) (x y : List ℕ) (done : Shuffled half i x y) (fits : 2 
         ];
       }
 
-pub begun-none : (x added out : List ℕ) → Begun 0 x added out
-begun-none x added out = record { remainder = λ i h. absurd (omega arith) }
+pub begun-none : (x out : List ℕ) → Begun 0 x out
+begun-none x out = record { remainder = λ i h. absurd (omega arith) }
 
-pub begun-more : (i : ℕ) (x added out : List ℕ) → Begun i x added out → i < length out → (n : ℕ) → n ≤ i + 1
-    → Begun n x added (set out i ((getD x i 0 + getD added i 0) % 257))
-begun-more i x added out done fits n most =
-    let v : ℕ = (getD x i 0 + getD added i 0) % 257 in
+pub begun-more : (i : ℕ) (x out : List ℕ) → Begun i x out → i < length out → (n : ℕ) → n ≤ i + 1 → Begun n x (set out i (getD x i 0 % 257))
+begun-more i x out done fits n most =
+    let v : ℕ = getD x i 0 % 257 in
     record {
       remainder = λ j h. elim (ℕ-discrete j i) [
-        | yes e ↦
-            ap (λ j. getD (set out i v) j 0) e ∙ getD-set-same out i v 0 fits ∙ ap (λ j. (getD x j 0 + getD added j 0) % 257) (sym e)
+        | yes e ↦ ap (λ j. getD (set out i v) j 0) e ∙ getD-set-same out i v 0 fits ∙ ap (λ j. getD x j 0 % 257) (sym e)
         | no ne ↦ getD-set-other out i j v 0 ne ∙ done .remainder j (omega arith)
       ];
     }

@@ -10,28 +10,26 @@ use Rattle.transform_stages.proofs.finish.Statement.{statement}
 use Rattle.transform_stages.proofs.finish.Tie as tie
 
 abbrev Inv-loop : tie.InvT-loop
-Inv-loop x added out₀ n at₀ out at = (at % 128 ≡ 0) × (at ≤ n) × (length out ≡ n) × Begun at x added out
+Inv-loop x out₀ n at₀ out at = (at % 128 ≡ 0) × (at ≤ n) × (length out ≡ n) × Begun at x out
 
 abbrev μ-loop : tie.MeasureT-loop
-μ-loop x added out₀ n at₀ out at = n - at
+μ-loop x out₀ n at₀ out at = n - at
 
 loop-holds : tie.Need-loop-holds Inv-loop μ-loop
-loop-holds c = let s = c .before .before .before in (omega arith, omega arith, s .pre .0 .2, begun-none _ _ _)
+loop-holds c = (omega arith, omega arith, c .before .before .pre .1, begun-none _ _)
 
 more-finished-requires : tie.Need-more-finished-requires Inv-loop μ-loop
 more-finished-requires c κs =
     let at = c .before .before in
-    let pre = at .before .before .before .before .pre in (
-      (omega (arith, pre .0 .3, at .loop .inv .0), omega arith, omega arith),
-      ((λ i h. pre .1 .0 i (omega arith)), (λ i h. pre .1 .1 i (omega arith)), at .loop .inv .3),
-    )
+    let pre = at .before .before .before .pre in
+    (omega (arith, pre .2, at .loop .inv .0), omega arith, at .loop .inv .3)
 
 loop-again : tie.Need-loop-again Inv-loop μ-loop
 loop-again c =
     let made = c .before .before in
     let at = made .before .before .before in
-    let pre = at .before .before .before .before .pre in
-    (omega (arith, at .loop .inv .0), omega (arith, pre .0 .3, at .loop .inv .0), omega arith, made .more-finished .ensures)
+    let pre = at .before .before .before .pre in
+    (omega (arith, at .loop .inv .0), omega (arith, pre .2, at .loop .inv .0), omega arith, made .more-finished .ensures)
 
 returns : tie.Need-returns Inv-loop μ-loop
 returns c = λ i h. c .before .loop .inv .3 .remainder i (omega arith)

@@ -1,5 +1,5 @@
--- Turn by turn, the output takes the remainder of a sum that fits 16 bits.
-use mathlib.Core.Path.{_≡_, _∙_}
+-- Turn by turn, the output takes the remainder.
+use mathlib.Core.Path.{_≡_}
 use Prim.Native.Nat.{_+_, _-_, _≤_}
 use native.Mathlib.Omega.{arith}
 use borrow.Author.Needs.{needs}
@@ -10,29 +10,22 @@ use Rattle.transform_stages.proofs.more_finished.Statement.{statement}
 use Rattle.transform_stages.proofs.more_finished.Tie as tie
 
 abbrev Inv-loop : tie.InvT-loop
-Inv-loop x added out₀ at k₀ out k = (k ≤ 128) × (length out ≡ length x) × Begun (at + k) x added out
+Inv-loop x out₀ at k₀ out k = (k ≤ 128) × (length out ≡ length x) × Begun (at + k) x out
 
 abbrev μ-loop : tie.MeasureT-loop
-μ-loop x added out₀ at k₀ out k = 128 - k
+μ-loop x out₀ at k₀ out k = 128 - k
 
 loop-holds : tie.Need-loop-holds Inv-loop μ-loop
-loop-holds c = let done = c .pre .1 .2 in (omega arith, omega arith, record { remainder = λ i h. done .remainder i (omega arith) })
-
-add-out : tie.Need-add-out Inv-loop μ-loop
-add-out c =
-    let at = c .before .before .before in
-    let s = at .before in
-    let i = s .args .at + at .loop .k in
-    omega (arith, s .pre .1 .0 i (omega arith), s .pre .1 .1 i (omega arith))
+loop-holds c = let done = c .pre .2 in (omega arith, omega arith, record { remainder = λ i h. done .remainder i (omega arith) })
 
 loop-again : tie.Need-loop-again Inv-loop μ-loop
 loop-again c =
-    let at = c .before .before .before in
+    let at = c .before .before in
     let loop = at .loop in
     let a = at .before .args in (
       omega arith,
       simp length-set (loop .inv .1),
-      begun-more (a .at + loop .k) (a .x .now) (a .added .now) (loop .out) (loop .inv .2) (omega arith) (a .at + (loop .k + 1)) (omega arith),
+      begun-more (a .at + loop .k) (a .x .now) (loop .out) (loop .inv .2) (omega arith) (a .at + (loop .k + 1)) (omega arith),
     )
 
 returns : tie.Need-returns Inv-loop μ-loop
@@ -42,4 +35,4 @@ pub more-finished-spec : {M : Type 1} → statement M
 more-finished-spec =
     tie.close
     (tie.spec Inv-loop μ-loop loop-holds (λ c. search needs) (λ c. search needs) (λ c. search needs) (λ c. search needs) (λ c. search needs)
-    add-out (λ c. search needs) (λ c. search needs) (λ c. search needs) (λ c. search needs) loop-again (λ c. search needs) returns)
+    (λ c. search needs) (λ c. search needs) loop-again (λ c. search needs) returns)

@@ -1,5 +1,4 @@
 -- Each call makes the entries before those of the last one. The test of a call's exponents is computed.
-use Prim.Native.Nat.{_+_}
 use native.Mathlib.Omega.{arith}
 use borrow.Author.Needs.{needs}
 use lib.ListN.{length-set}

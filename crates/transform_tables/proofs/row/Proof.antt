@@ -7,7 +7,7 @@ use lib.ListN.{length, getD, length-set}
 use Rattle.simd.specs.Expansion.{power}
 use Rattle.laws.proofs.Field.{power-lt}
 use Rattle.laws.proofs.Stores.{Stored, stored-none, stored-more, fresh-runs}
-use Rattle.laws.proofs.Table.{getD-table, length-table}
+use Rattle.laws.proofs.Table.{getD-table}
 use Rattle.transform_tables.proofs.Making.{begun-more}
 use Rattle.transform_tables.proofs.row.Statement.{statement}
 use Rattle.transform_tables.proofs.row.Tie as tie

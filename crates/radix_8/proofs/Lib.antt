@@ -1,0 +1,3 @@
+pub mod Eight
+pub mod Ends
+pub mod Fours
