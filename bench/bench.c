@@ -4,10 +4,15 @@
      bench lengths WIDTH BYTES..         cycles for a message of each length
      bench feeds WIDTH BITS..            cycles for a feed of so many bits
      bench seals WIDTH                   cycles for a long message, hashed and sealed under a key
+     bench indexes WIDTH                 cycles for a long message, hashed, with its index, and
+                                         corrected in its last block; then the blocks that the
+                                         correction compresses, and all blocks
      bench count TASK WHO                runs a task once, in the function `counted`
      bench count-length WIDTH BYTES WHO  the same for one message
      bench count-feeds WIDTH BITS        the same for FEEDS feeds
      bench count-seals WIDTH KEYED       the same for a long message, hashed (0) or sealed (1)
+     bench count-indexes WIDTH KIND      the same for one hashed (0), with its index (1), or
+                                         corrected (2)
 
    The figures of a task are taken in turns: library, portable, sse2, and again;
    of each the best time of all turns is kept. */
@@ -30,6 +35,7 @@ enum { LIBRARY, PORTABLE, SSE2, WHO };
 static const uint8_t key[32] = "a key of 32 bytes, as many have";
 static uint8_t message[LONG + 1], other[LONG + 1], another[LONG + 1], out[SIMD_DIGEST_MAX];
 static uint8_t form[SIMD_FORM_LARGE], fresh[SIMD_FORM_LARGE];
+static uint8_t old_index[SIMD_INDEX(256, 8 * LONG)], new_index[sizeof old_index];
 static uint64_t number, verdict;
 
 /* SSE2 baseline: whole messages over sse2_compress. */
@@ -138,6 +144,23 @@ static void keyed(int who, int width)
         hash_with(who, width, message, LONG);
 }
 
+/* The whole message with its index; the baselines hash it. */
+static void indexed(int who, int width)
+{
+    if (who == LIBRARY)
+        refused(simd_index((uint16_t)width, message, LONG, 8 * (uint64_t)LONG, new_index, sizeof new_index,
+                           out, sizeof out, &number));
+    else
+        hash_with(who, width, message, LONG);
+}
+
+/* The message corrected in its last byte. */
+static void corrected(int width)
+{
+    refused(simd_reindex((uint16_t)width, other, LONG, 8 * (uint64_t)LONG, old_index, sizeof old_index,
+                         (LONG - 1) / SIMD_BLOCK(width), new_index, sizeof new_index, out, sizeof out, &number));
+}
+
 /* Two long messages; the baselines hash both. */
 static void compare_with(int who, int width, const uint8_t *second)
 {
@@ -193,6 +216,17 @@ static void hashed_or_keyed(int with_key, int width)
         whole(LIBRARY, width);
 }
 
+/* The library alone: the whole message, hashed, with its index, and corrected. */
+static void hashed_or_indexed(int kind, int width)
+{
+    if (kind == 2)
+        corrected(width);
+    else if (kind == 1)
+        indexed(LIBRARY, width);
+    else
+        whole(LIBRARY, width);
+}
+
 struct task {
     const char *name;
     void (*run)(int who, int width);
@@ -202,6 +236,7 @@ struct task {
 static const struct task TASKS[] = {
     {"long message, one call", whole, LONG},
     {"long message under a key, one call", keyed, LONG},
+    {"long message with its index, one call", indexed, LONG},
     {"long piece, no tail", feed_aligned, LONG},
     {"long piece, tail of 8 bits", feed_byte, LONG},
     {"long piece, tail of 3 bits", feed_odd, LONG},
@@ -213,6 +248,7 @@ enum { COUNT = sizeof TASKS / sizeof *TASKS };
 static const struct task ONE_LENGTH = {"one message", one_length, 0};
 static const struct task FEED_AGAIN = {"feeds", feed_again, 0};
 static const struct task SEAL = {"hashed or keyed", hashed_or_keyed, 0};
+static const struct task INDEX = {"hashed or indexed", hashed_or_indexed, 0};
 static const int WIDTHS[] = {256, 512};
 
 static double seconds(void)
@@ -225,6 +261,13 @@ static double seconds(void)
 static void prepare(int width)
 {
     refused(simd_open((uint16_t)width, fresh, sizeof fresh));
+}
+
+/* The index that a correction starts from. */
+static void keep_index(int width)
+{
+    refused(simd_index((uint16_t)width, message, LONG, 8 * (uint64_t)LONG, old_index, sizeof old_index,
+                       out, sizeof out, &number));
 }
 
 static void measure(const struct task *task, int width)
@@ -301,6 +344,20 @@ static void seals(int width)
     printf("%llu|%llu\n", (unsigned long long)cycles[0], (unsigned long long)cycles[1]);
 }
 
+static void indexes(int width)
+{
+    uint64_t cycles[3], all, some;
+    keep_index(width);
+    best_cycles(&INDEX, width, 3, cycles);
+    indexed(LIBRARY, width);
+    all = number;
+    corrected(width);
+    some = number;
+    for (int kind = 0; kind < 3; kind++)
+        printf("%llu|", (unsigned long long)cycles[kind]);
+    printf("%llu|%llu\n", (unsigned long long)some, (unsigned long long)all);
+}
+
 void counted(const struct task *task, int who, int width);
 
 __attribute__((noinline)) void counted(const struct task *task, int who, int width)
@@ -360,6 +417,15 @@ int main(int argc, char **argv)
     }
     if (argc == 4 && strcmp(argv[1], "count-seals") == 0) {
         counted(&SEAL, atoi(argv[3]), atoi(argv[2]));
+        return 0;
+    }
+    if (argc == 4 && strcmp(argv[1], "count-indexes") == 0) {
+        keep_index(atoi(argv[2]));
+        counted(&INDEX, atoi(argv[3]), atoi(argv[2]));
+        return 0;
+    }
+    if (argc == 3 && strcmp(argv[1], "indexes") == 0) {
+        indexes(atoi(argv[2]));
         return 0;
     }
     if (argc == 3 && strcmp(argv[1], "seals") == 0) {

@@ -1,5 +1,5 @@
 /* simd.h - SIMD v1.1: digests and keyed seals of bit strings, comparison,
-   sealing tape, ledger page, quotes
+   sealing tape, ledger page, quotes, indexes of long records
 
    C99 and C++11, on x86-64.  Link with -lsimd, or with libsimd.a by its path.
 
@@ -224,6 +224,46 @@
            return 0;
        }
 
+     index.c: the digest of a record and its index; then a reading late in the
+     record is corrected, and only the blocks from the last state kept before it on
+     are compressed again.  The old index and the new one are two buffers.
+
+       #include <stdio.h>
+       #include "simd.h"
+
+       enum { BYTES = 10000, BITS = 8 * BYTES, SIZE = SIMD_INDEX(256, BITS) };
+
+       static uint8_t record[BYTES], before[SIZE], after[SIZE];
+
+       static void print(const uint8_t *digest, uint64_t blocks)
+       {
+           for (int k = 0; k < SIMD_DIGEST(256); k++)
+               printf("%02x", digest[k]);
+           printf(" %lu\n", (unsigned long)blocks);
+       }
+
+       int main(void)
+       {
+           const size_t place = 9876;
+           uint8_t digest[SIMD_DIGEST(256)];
+           uint64_t blocks;
+           uint8_t refusal = simd_index(256, record, BYTES, BITS, before, SIZE,
+                                        digest, sizeof digest, &blocks);
+           if (refusal == SIMD_ACCEPTED) {
+               print(digest, blocks);
+               record[place] = 37;
+               refusal = simd_reindex(256, record, BYTES, BITS, before, SIZE,
+                                      place / SIMD_BLOCK(256), after, SIZE,
+                                      digest, sizeof digest, &blocks);
+           }
+           if (refusal != SIMD_ACCEPTED) {
+               fprintf(stderr, "refused %d: %s\n", refusal, simd_refusal_text(refusal));
+               return 1;
+           }
+           print(digest, blocks);
+           return 0;
+       }
+
      vector.cpp: a std::vector, which may be empty.
 
        #include <cstdio>
@@ -280,7 +320,8 @@ extern "C" {
 
 #define SIMD_BLOCK_SMALL 64     /* a block, and a state, of the small family */
 #define SIMD_BLOCK_LARGE 128    /* and of the large family */
-#define SIMD_FORM_SMALL 134     /* a stored form: 6 bytes, state, block */
+#define SIMD_HEAD 6             /* what stored forms and indexes begin with: width, bit length */
+#define SIMD_FORM_SMALL 134     /* a stored form: head, state, block */
 #define SIMD_FORM_LARGE 262
 #define SIMD_HMAC_FORM_SMALL 268    /* a keyed form: two stored forms */
 #define SIMD_HMAC_FORM_LARGE 524
@@ -290,6 +331,7 @@ extern "C" {
 #define SIMD_LINE 76            /* a line of a page: 75 columns and a newline */
 #define SIMD_ENTRY_MAX 152      /* the longest entry of a page: two lines */
 #define SIMD_QUOTE_MAX 18       /* the longest quote: 16 digits and 2 check digits */
+#define SIMD_INDEX_SPAN 16      /* the blocks from one state of an index to the next */
 
 /* The same for one of the four widths. */
 #define SIMD_BLOCK(width) ((width) <= 256 ? SIMD_BLOCK_SMALL : SIMD_BLOCK_LARGE)
@@ -299,6 +341,16 @@ extern "C" {
 #define SIMD_DIGEST(width) ((width) / 8)
 #define SIMD_ENTRY(width) ((width) <= 256 ? SIMD_LINE : 2 * SIMD_LINE)
 #define SIMD_QUOTE(width) SIMD_QUOTE_MAX
+
+/* The same for one of the four widths and a count of bits: an index has a head, and a
+   state for each of the full blocks 0, 16, 32 and so on. */
+#define SIMD_INDEX_STATES(full) (((full) + SIMD_INDEX_SPAN - 1) / SIMD_INDEX_SPAN)
+#define SIMD_INDEX_SMALL(bits) \
+    (SIMD_HEAD + SIMD_BLOCK_SMALL * SIMD_INDEX_STATES((bits) / (8 * SIMD_BLOCK_SMALL)))
+#define SIMD_INDEX_LARGE(bits) \
+    (SIMD_HEAD + SIMD_BLOCK_LARGE * SIMD_INDEX_STATES((bits) / (8 * SIMD_BLOCK_LARGE)))
+#define SIMD_INDEX(width, bits) \
+    ((width) <= 256 ? SIMD_INDEX_SMALL(bits) : SIMD_INDEX_LARGE(bits))
 
 /* The most bits of a message; of a keyed hash, of its key, and of its message with
    one block for the key. */
@@ -329,6 +381,8 @@ extern "C" {
 #define SIMD_STACK_PAGE_ENTRY 448
 #define SIMD_STACK_QUOTE 128
 #define SIMD_STACK_QUOTE_CHECK 144
+#define SIMD_STACK_INDEX 7168
+#define SIMD_STACK_REINDEX 7168
 #define SIMD_STACK_MAX 12288    /* of all calls */
 
 /* REFUSALS */
@@ -352,6 +406,8 @@ extern "C" {
 #define SIMD_REFUSED_ORDER 12    /* tape: OPEN while open; FULL, PART, TAKE while not */
 #define SIMD_REFUSED_TAPE 13     /* program seal: tape above 65,536 bytes; no call here answers it */
 #define SIMD_REFUSED_ENTRY 14    /* page: an entry number above SIMD_NUMBER_MAX */
+#define SIMD_REFUSED_INDEX 15    /* an index whose width, length or size does not fit the given
+                                    width and message; a block number above the length block's */
 
 /* simd_refusal_text - an answer in words, for programs that print it
 
@@ -374,6 +430,7 @@ static inline const char *simd_refusal_text(uint8_t refusal)
     case SIMD_REFUSED_ORDER: return "the tape opens an open hash, or uses one that is not open";
     case SIMD_REFUSED_TAPE: return "the tape has more than 65536 bytes";
     case SIMD_REFUSED_ENTRY: return "the entry number is above 999999";
+    case SIMD_REFUSED_INDEX: return "the index or the block number does not fit the message";
     default: return "no such refusal";
     }
 }
@@ -737,6 +794,78 @@ SIMD_CALL uint8_t simd_quote(uint16_t width, const uint8_t *digest, size_t diges
    refused", not "right".  The verdict is in *right, as at simd_hmac_check, and is
    written by every call. */
 SIMD_CALL uint8_t simd_quote_check(const uint8_t *quote, size_t quote_len, uint64_t *right);
+
+/* INDEX
+
+   An index is kept beside a long record.  When a reading late in the record is
+   corrected and the length stays, the new digest and the new index follow from the old
+   index and the blocks after the last state kept before the correction.
+
+   It has SIMD_INDEX(width, bits) bytes: the width (2 bytes, little endian), the bit
+   length (4 bytes, little endian), then the states before blocks 0, 16, 32 and so on,
+   one for every full block so numbered, each SIMD_BLOCK(width) bytes in the order of
+   the stored form.  A last block that is not full and the length block keep none, and a
+   record of less than a block has an index of 6 bytes.
+
+   Blocks are counted from the front: the first is 0, and the number of the length
+   block is that of all message blocks, the last one counted also where it is not full.
+   (simd_compare counts them back.)
+
+   THE STATES OF AN INDEX ARE TAKEN AS THEY ARE.  A correction starts from one of them,
+   also where that is the first, and cannot tell whether a message has such a state.  So
+   the digest is right only where the index is; who can change the index can change the
+   digest.  Keep an index as safe as its record, or make it anew. */
+
+/* simd_index - the digest of a message, and its index
+
+   Writes the index of the first bits bits of message to the first
+   SIMD_INDEX(width, bits) bytes of index, and their digest, that of simd_hash, to the
+   first SIMD_DIGEST(width) bytes of out.  *blocks becomes the number of blocks
+   compressed: all message blocks and the length block.
+
+   Refusals, in order:
+     SIMD_REFUSED_WIDTH
+     SIMD_REFUSED_COUNT   bits is above 8 * message_len
+     SIMD_REFUSED_TOTAL   bits is above SIMD_BITS_MAX
+     SIMD_REFUSED_OUTPUT  index_len is below SIMD_INDEX(width, bits), or out_len below
+                          SIMD_DIGEST(width) */
+SIMD_CALL uint8_t simd_index(uint16_t width, const uint8_t *message, size_t message_len,
+                             uint64_t bits, uint8_t *index, size_t index_len,
+                             uint8_t *out, size_t out_len, uint64_t *blocks);
+
+/* simd_reindex - the digest and the index of a corrected message
+
+   message is the corrected one, old the index that was kept, and block the number of
+   the first block that was corrected, from 0 to that of the length block.  The work
+   starts at the last state in old that is kept for this block or one before it, or at
+   the width's starting state where old has no state.  The states up to that one are
+   carried into index unchanged, the others are made from the message.  So a correction
+   in the last message block compresses at most 18 blocks, however long the record is.
+
+   Writes to index and out as simd_index does.  *blocks becomes the number of blocks
+   compressed: as many as simd_index reports less those before the start.
+
+   Where old is the index that simd_index makes of an earlier message of the same length
+   that equals this one in all blocks before block, index and out become what simd_index
+   makes of this one.  Any other index of the right shape is accepted too, and so is a
+   number behind the first corrected block, up to the length block's: the results are
+   then what the states of old give.  A number before it costs time alone.
+
+   old and index are two buffers that do not overlap.
+
+   Refusals, in order:
+     SIMD_REFUSED_WIDTH
+     SIMD_REFUSED_COUNT   bits is above 8 * message_len
+     SIMD_REFUSED_TOTAL   bits is above SIMD_BITS_MAX
+     SIMD_REFUSED_INDEX   old_len is not SIMD_INDEX(width, bits), the width or the bit
+                          length in old is not that given, or block is above the number
+                          of the length block
+     SIMD_REFUSED_OUTPUT  index_len is below SIMD_INDEX(width, bits), or out_len below
+                          SIMD_DIGEST(width) */
+SIMD_CALL uint8_t simd_reindex(uint16_t width, const uint8_t *message, size_t message_len,
+                               uint64_t bits, const uint8_t *old, size_t old_len,
+                               uint64_t block, uint8_t *index, size_t index_len,
+                               uint8_t *out, size_t out_len, uint64_t *blocks);
 
 #ifdef __cplusplus
 }

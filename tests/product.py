@@ -20,7 +20,7 @@ GUARD = 64
 PATTERN = bytes((167 * k + 90) % 256 for k in range(GUARD + 16))
 
 WIDTH, FLAG, BITS, NUMBER = ctypes.c_uint16, ctypes.c_bool, ctypes.c_uint64, ctypes.c_void_p
-ENTRY = ctypes.c_uint64
+ENTRY, BLOCK = ctypes.c_uint64, ctypes.c_uint64
 SLICE = (ctypes.c_void_p, ctypes.c_size_t)
 
 CALLS = {
@@ -41,6 +41,8 @@ CALLS = {
     "simd_page_entry": (ENTRY, WIDTH, *SLICE, *SLICE),
     "simd_quote": (WIDTH, *SLICE, *SLICE),
     "simd_quote_check": (*SLICE, NUMBER),
+    "simd_index": (WIDTH, *SLICE, BITS, *SLICE, *SLICE, NUMBER),
+    "simd_reindex": (WIDTH, *SLICE, BITS, *SLICE, BLOCK, *SLICE, *SLICE, NUMBER),
 }
 TRACE_CALLS = {
     "trace_transform": (WIDTH, FLAG, *SLICE, *SLICE),
@@ -202,6 +204,15 @@ def quote(width, digest, out):
 
 def quote_check(quote, right=0):
     return call(library.simd_quote_check, const(quote), LentNumber(right))
+
+
+def index(width, message, bits, index, out, blocks=0):
+    return call(library.simd_index, width, const(message), bits, Lent(index), Lent(out), LentNumber(blocks))
+
+
+def reindex(width, message, bits, old, block, index, out, blocks=0):
+    return call(library.simd_reindex, width, const(message), bits, const(old), block, Lent(index), Lent(out),
+                LentNumber(blocks))
 
 
 # The test-only library

@@ -31,9 +31,16 @@ def read_keyed(text):
     return b"".join(map(read_form, text.split("+")))
 
 
+def read_index(text, given):
+    """An index with states that no message reaches."""
+    width, length, size = text.split("/")
+    width, size = given if width == "-" else int(width), int(size)
+    return (width.to_bytes(2, "little") + int(length).to_bytes(4, "little") + LENT)[:size]
+
+
 def arguments(call, field):
     """The arguments, in the order of tests/product.py, from the fields of a line."""
-    lent = {key: LENT[:int(field[key])] for key in ("out", "state", "block", "key", "tag", "digest")
+    lent = {key: LENT[:int(field[key])] for key in ("out", "state", "block", "key", "tag", "digest", "index")
             if key in field}
     width = int(field["width"]) if "width" in field else None
     if call == "open":
@@ -65,6 +72,11 @@ def arguments(call, field):
         return width, lent["digest"], lent["out"]
     if call == "quote_check":
         return read_bytes(field["quote"]), NUMBER
+    if call == "index":
+        return width, read_bytes(field["message"]), int(field["bits"]), lent["index"], lent["out"], NUMBER
+    if call == "reindex":
+        return (width, read_bytes(field["message"]), int(field["bits"]), read_index(field["old"], width),
+                int(field["number"]), lent["index"], lent["out"], NUMBER)
     raise ValueError(call)
 
 
@@ -72,11 +84,12 @@ def arguments(call, field):
 WRITTEN = {"open": (1,), "feed": (0, 3), "take": (1, 2), "hash": (3,), "hmac_open": (2,),
            "hmac_feed": (0, 3), "hmac_take": (1, 2), "hmac_check": (2,), "hmac": (4,), "expand": (3,),
            "steps": (4,), "unsteps": (4,), "compare": (5, 6), "page_entry": (3,),
-           "quote": (2,), "quote_check": (1,)}
+           "quote": (2,), "quote_check": (1,), "index": (3, 4, 5), "reindex": (5, 6, 7)}
 
 
 # The places of each piece or message and of its count behind it.
-COUNTED = {"feed": (1,), "hash": (1,), "hmac_feed": (1,), "hmac": (2,), "compare": (1, 3)}
+COUNTED = {"feed": (1,), "hash": (1,), "hmac_feed": (1,), "hmac": (2,), "compare": (1, 3),
+           "index": (1,), "reindex": (1,)}
 
 
 def with_zeros(call, args):

@@ -14,6 +14,7 @@ import sys
 
 from tally import Tally, message, random_arguments
 import door_ref
+import index_ref
 import product
 import quote_ref
 import simd_ref as ref
@@ -61,7 +62,7 @@ class Calls:
 
     def __init__(self, rng):
         self.rng = rng
-        self.forms, self.keyed_forms = [], []    # some that calls returned
+        self.forms, self.keyed_forms, self.indexes = [], [], []    # some that calls returned
 
     def lent(self, size):
         return self.rng.randbytes(near(self.rng, size))
@@ -130,6 +131,8 @@ class Calls:
             self.forms = self.forms[-20:] + [form]
         elif name in ("hmac_open", "hmac_feed"):
             self.keyed_forms = self.keyed_forms[-20:] + [form]
+        elif name in ("index", "reindex"):
+            self.indexes = self.indexes[-20:] + [form]
 
     def open(self):
         width = a_width(self.rng)
@@ -245,13 +248,46 @@ class Calls:
             quote = rng.randbytes(near(rng, 18))
         return bytes(quote), rng.choice((self.number(), 0, 1))
 
+    def index(self):
+        """Some of more than 16 blocks, which keep two states and more."""
+        rng, width = self.rng, a_width(self.rng)
+        data, bits = a_message(rng, rng.choice((300, 300, 3000)))
+        return width, data, bits, *self.rooms(width, bits), self.number()
+
+    def rooms(self, width, bits):
+        """For an index and a digest; a count that no message here has asks for no more than the longest."""
+        known, lent = width if width in ref.WIDTHS else 256, self.rng.choice((self.lent, self.rng.randbytes))
+        return lent(index_ref.size(known, min(bits, 10 ** 5))), lent(width % 1024 // 8)
+
+    def reindex(self):
+        """From an index that a call returned, with a message of its length, or from one with any states; some of
+        them damaged, some messages of another length.  Most often a block number that there is."""
+        rng, width = self.rng, self.rng.choice(ref.WIDTHS)
+        data, bits = a_message(rng, rng.choice((300, 300, 3000)))
+        if self.indexes and rng.randrange(3):
+            old = rng.choice(self.indexes)
+            width, bits = int.from_bytes(old[:2], "little"), int.from_bytes(old[2:6], "little")
+            old, data = old[:index_ref.size(width, bits)], message(rng, bits) + rng.randbytes(rng.choice((0, 0, 9)))
+        else:
+            old = index_ref.head(width, min(bits, LIMIT))
+            old += rng.randbytes(index_ref.size(width, min(bits, 10 ** 5)) - len(old))
+        numbers = min(bits, 10 ** 5) // ref.block_bits(width) + 2
+        block = rng.choice((rng.randrange(numbers), rng.randrange(numbers), numbers - 1, self.number()))
+        if not rng.randrange(12):
+            width = a_width(rng)
+        if not rng.randrange(12):
+            bits = max(0, bits + rng.choice((-1, 1)))
+        if rng.randrange(2):
+            old = self.damaged(old)
+        return width, data, bits, old, block, *self.rooms(width, bits), self.number()
+
 
 NAMES = ("open", "feed", "take", "hash", "hmac_open", "hmac_feed", "hmac_take", "hmac_check", "hmac",
-         "expand", "steps", "unsteps", "compare", "tape", "page_entry", "quote", "quote_check")
+         "expand", "steps", "unsteps", "compare", "tape", "page_entry", "quote", "quote_check", "index", "reindex")
 
 
 def main():
-    rng, count = random_arguments(6, 6800)
+    rng, count = random_arguments(6, 7600)
     tally, calls = Tally("fuzz"), Calls(rng)
     met = {name: collections.Counter() for name in NAMES}
     verdicts = {name: collections.Counter() for name in ("hmac_check", "quote_check")}

@@ -14,6 +14,7 @@ import tempfile
 
 from tally import Tally
 import hmac_ref
+import index_ref
 import product
 import simd_ref as ref
 
@@ -95,6 +96,13 @@ def check_messages(tally):
             before = out.contents()
             found = door.simd_hash(256, zeros, size, bits, *out.arguments())
             tally.equal((found, out.contents()), (refusal, before), what + "hash")
+            # No room for an index, and old ones that fit nothing: 15 and 6 come later.
+            rest = (zeros, 0, *out.arguments(), out.numbers()[0])
+            found = door.simd_index(256, zeros, size, bits, *rest)
+            tally.equal((found, out.contents()), (refusal, before), what + "index")
+            for given in ((zeros, 0, 0), (zeros, index_ref.HEAD, 2 ** 64 - 1)):
+                found = door.simd_reindex(256, zeros, size, bits, *given, *rest)
+                tally.equal((found, out.contents()), (refusal, before), what + "correction")
         out = Output(0)
         before = out.contents()
         form = product.open(256, bytes(134))[1]
@@ -109,6 +117,55 @@ def check_messages(tally):
     out = Output(0)
     found = door.simd_compare(384, zeros, 2 ** 29, LIMIT, zeros, 0, 0, *out.numbers())
     tally.equal((found, *out.contents()), (0, b"", 1, 0), "compare at the limit")
+
+
+def check_indexes(tally):
+    """A record of the most bits: its index, which has 524,288 or 262,144 states, and corrections in its last byte."""
+    door, zeros = product.library, map_memory(ZEROS)
+    last = ctypes.c_uint8.from_address(zeros + 2 ** 29 - 1)
+    for width in (256, 512):
+        size, block = index_ref.size(width, LIMIT), ref.block_bytes(width)
+        old, new = (map_memory(size + PAGE) for _ in range(2))
+        kept, total = (size - index_ref.HEAD) // block, 2 ** 29 // block + 1
+        what = "an index of %d bits at %d: " % (LIMIT, width)
+
+        def run(call, *given):
+            """(refusal, digest, blocks) of a fresh run or a correction."""
+            out = Output(width // 8)
+            found = call(width, zeros, 2 ** 29, LIMIT, *given, *out.arguments(), out.numbers()[0])
+            return found, *out.contents()[:2]
+
+        def digest():
+            out = Output(width // 8)
+            door.simd_hash(width, zeros, 2 ** 29, LIMIT, *out.arguments())
+            return out.contents()[0]
+
+        last.value = 0
+        tally.equal(run(door.simd_index, old, size), (0, digest(), total), what + "fresh")
+        index = ctypes.string_at(old, size + PAGE)
+        tally.equal((index[:index_ref.HEAD], index[size:]), (index_ref.head(width, LIMIT), bytes(PAGE)), what + "its ends")
+        for place in (0, 1, kept - 1):
+            form = product.Lent(product.open(width, bytes(6 + 2 * block))[1])
+            number = product.LentNumber(0)
+            door.simd_feed(*form.arguments(), zeros, 2 ** 29, 128 * block * place, *number.arguments())
+            at = index_ref.HEAD + block * place
+            tally.equal(index[at:at + block], form.after()[6:6 + block], what + "state %d" % place)
+
+        # A bit that counts, and the one past the limit, which does not.
+        last.value = 0x03
+        corrected = digest()
+        for number, blocks in ((total - 2, 17), (total - 1, 17), (total - 18, 33)):
+            ctypes.memset(new, 0, size)
+            tally.equal(run(door.simd_reindex, old, size, number, new, size), (0, corrected, blocks),
+                        what + "corrected from block %d" % number)
+            tally.equal(ctypes.string_at(new, size + PAGE) == index, True, what + "the new one")
+        nothing = b"\xa5" * (width // 8), 71
+        for given, refusal in (((old, size, total, new, size), 15), ((old, size, 2 ** 32, new, size), 15),
+                               ((old, size - 1, 0, new, size), 15), ((old, size + 1, 0, new, size), 15),
+                               ((old, size, 0, new, size - 1), 6)):
+            tally.equal(run(door.simd_reindex, *given), (refusal, *nothing), what + "refused")
+        tally.equal(run(door.simd_index, new, size - 1), (6, *nothing), what + "a byte short")
+        tally.equal(ctypes.string_at(new, size + PAGE) == index, True, what + "as it was")
 
 
 def check_keys(tally):
@@ -197,10 +254,11 @@ def check_tapes(tally):
 def main():
     tally = Tally("limit")
     check_messages(tally)
+    check_indexes(tally)
     check_keys(tally)
     check_keyed(tally)
     check_tapes(tally)
-    return tally.finish("messages of 4,294,967,295 bits and more, and keys")
+    return tally.finish("messages of 4,294,967,295 bits and more, indexes and keys")
 
 
 if __name__ == "__main__":

@@ -5,8 +5,9 @@
 
 Every call that takes a count is given the same bits with zeros after them, with
 ones, with single bits and with random ones, and with bytes behind the last one
-used.  All have one answer: the reference's digest, form, verdict, tag or listing
-of the bits alone, which the reference is given without what is past the count.
+used.  All have one answer: the reference's digest, form, verdict, tag, index or
+listing of the bits alone, which the reference is given without what is past the
+count.
 Then that a bit past the tail of a stored form is still refused, that 2 and 4 are
 answered as before, and N messages that come through one buffer, whose old bits
 lie behind each piece.
@@ -20,6 +21,7 @@ from tally import HERE, Tally, bits_of, message, random_arguments
 from test_random import cut, length
 import door_ref
 import hmac_ref
+import index_ref
 import product
 import simd_ref as ref
 import tape_ref
@@ -188,6 +190,21 @@ def check_comparisons(tally, rng):
         both = longer + b"\xff" * 3
         check(both, count, both, count, door_ref.SAME, where + ": the same bytes")
         check(both, count, both, count + 1, door_ref.APART, where + ": the same bytes, one bit more of them")
+
+
+def check_indexes(tally, rng):
+    """Index, digest and compressions of a fresh run, and of a correction from the index of another message."""
+    for width, count, data in each(rng, (*COUNTS, 8703, 8705, 17407, 17409)):
+        where = "SIMD-%d, an index of %d bits" % (width, count)
+        old, block = index_ref.fresh(width, message(rng, count), count)[0], rng.randrange(ref.compressions(width, count))
+        rooms = rng.randbytes(len(old)), rng.randbytes(width // 8 + 9)
+        fresh = door_ref.index(width, data, count, *rooms, NUMBER)
+        corrected = door_ref.reindex(width, data, count, old, block, *rooms, NUMBER)
+        tally.equal((fresh[0], corrected[0]), (0, 0), where + ": the reference")
+        for what, given in ((CLEAN, data), *soiled(rng, data, count)):
+            tally.equal(product.index(width, given, count, *rooms, NUMBER), fresh, "%s: %s" % (where, what))
+            tally.equal(product.reindex(width, given, count, old, block, *rooms, NUMBER), corrected,
+                        "%s: %s, corrected" % (where, what))
 
 
 # Tapes
@@ -371,7 +388,7 @@ def main():
     if not os.path.exists(SEALS[1]):
         sys.exit("no target/bin/seal: run tests/run")
     tally = Tally("rubbish")
-    for check in (check_feeds, check_keyed_feeds, check_whole, check_comparisons, check_parts, check_stored,
+    for check in (check_feeds, check_keyed_feeds, check_whole, check_comparisons, check_indexes, check_parts, check_stored,
                   check_refusals):
         before = tally.compared
         check(tally, rng)

@@ -147,4 +147,31 @@ extern "C" {
     ) -> u8;
 
     pub fn simd_quote_check(quote: *const u8, quote_len: usize, right: *mut u64) -> u8;
+
+    pub fn simd_index(
+        width: u16,
+        message: *const u8,
+        message_len: usize,
+        bits: u64,
+        index: *mut u8,
+        index_len: usize,
+        out: *mut u8,
+        out_len: usize,
+        blocks: *mut u64,
+    ) -> u8;
+
+    pub fn simd_reindex(
+        width: u16,
+        message: *const u8,
+        message_len: usize,
+        bits: u64,
+        old: *const u8,
+        old_len: usize,
+        block: u64,
+        index: *mut u8,
+        index_len: usize,
+        out: *mut u8,
+        out_len: usize,
+        blocks: *mut u64,
+    ) -> u8;
 }

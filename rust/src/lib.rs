@@ -2,12 +2,12 @@
 //!
 //! The names are those of the C header: [`Hash::open`], [`Hash::feed`], [`Hash::take`], [`hash`],
 //! [`Hmac::open`], [`Hmac::feed`], [`Hmac::take`], [`Hmac::check`], [`hmac`], [`expand`], [`steps`],
-//! [`unsteps`], [`compare`], [`tape`], [`page_entry`], [`quote`], [`quote_check`]. A width is 224, 256,
-//! 384 or 512. A message is bytes and a count of bits; in a byte the first bit is the highest, and what
-//! is past the count, in the last byte used and in the bytes behind it, is ignored. Elsewhere an open
-//! hash is called a hashing context, to feed is to update, and to take is to finalize; here the hash
-//! stays open. A keyed seal is a message authentication code, its bytes are the tag, and to check a tag
-//! is to verify it.
+//! [`unsteps`], [`compare`], [`tape`], [`page_entry`], [`quote`], [`quote_check`], [`index()`],
+//! [`reindex`]. A width is 224, 256, 384 or 512. A message is bytes and a count of bits; in a byte the
+//! first bit is the highest, and what is past the count, in the last byte used and in the bytes behind
+//! it, is ignored. Elsewhere an open hash is called a hashing context, to feed is to update, and to take
+//! is to finalize; here the hash stays open. A keyed seal is a message authentication code, its bytes
+//! are the tag, and to check a tag is to verify it.
 //!
 //! ```
 //! let digest = simd::hash(256, b"", 0)?;
@@ -39,6 +39,7 @@
 #![warn(missing_docs)]
 
 mod ffi;
+mod index;
 mod keyed;
 mod page;
 mod quote;
@@ -47,6 +48,7 @@ mod refusal;
 use std::fmt;
 use std::io;
 
+pub use index::{index, reindex, Indexed};
 pub use keyed::{hmac, hmac_bytes, Hmac, TakenTag};
 pub use page::{page_entry, NUMBER_MAX};
 pub use quote::{quote, quote_check};
@@ -56,6 +58,8 @@ pub use refusal::{Refusal, TapeRefusal};
 /// key.
 pub const BITS_MAX: u64 = 4_294_967_295;
 
+/// The bytes that a stored form and an index begin with: width and bit length.
+const HEAD: usize = 6;
 const FORM_MAX: usize = 262;
 const DIGEST_MAX: usize = 64;
 const BLOCK_MAX: usize = 128;
@@ -76,7 +80,7 @@ fn block_len(width: u16) -> usize {
 
 /// The bytes of a stored form.
 fn form_len(width: u16) -> usize {
-    6 + 2 * block_len(width)
+    HEAD + 2 * block_len(width)
 }
 
 /// The bits of a slice; more than a message may have stays more.

@@ -37,6 +37,9 @@ pub enum Refusal {
     Order = 12,
     /// The number of an entry is above [`NUMBER_MAX`](crate::NUMBER_MAX).
     Entry = 14,
+    /// The width, the bit length or the size of an index does not fit the given width and message, or
+    /// the number of a block is above the length block's.
+    Index = 15,
 }
 
 impl Refusal {
@@ -55,6 +58,7 @@ impl Refusal {
         Refusal::End,
         Refusal::Order,
         Refusal::Entry,
+        Refusal::Index,
     ];
 
     /// The number that the library answers.
@@ -88,6 +92,7 @@ impl fmt::Display for Refusal {
             Refusal::End => "the tape ends in a command or before STOP",
             Refusal::Order => "the tape opens an open hash, or uses one that is not open",
             Refusal::Entry => "the entry number is above 999999",
+            Refusal::Index => "the index or the block number does not fit the message",
         })
     }
 }

@@ -1,13 +1,13 @@
-//! The wrapper against the digests of appendix A, the formula of keyed seals, the lines of a page and
-//! the reckoning of quotes; what is past a count; and its refusals.
+//! The wrapper against the digests of appendix A, the formula of keyed seals, the lines of a page, the
+//! reckoning of quotes, and the states that an index keeps; what is past a count; and its refusals.
 
 use std::fs;
 use std::io::Write;
 use std::path::Path;
 
 use simd::{
-    compare, expand, hash, hash_bytes, hmac, hmac_bytes, page_entry, quote, quote_check, steps,
-    tape, Hash, Hmac, Refusal, Verdict, NUMBER_MAX,
+    compare, expand, hash, hash_bytes, hmac, hmac_bytes, index, page_entry, quote, quote_check,
+    reindex, steps, tape, Hash, Hmac, Indexed, Refusal, Verdict, NUMBER_MAX,
 };
 
 const WIDTHS: [u16; 4] = [224, 256, 384, 512];
@@ -714,6 +714,190 @@ fn refusals_of_quotes() {
     assert_eq!(quote(64, &[0; 8]), Err(Refusal::Width));
 }
 
+fn block_bits(width: u16) -> u64 {
+    if width > 256 {
+        1024
+    } else {
+        512
+    }
+}
+
+/// The place of a state in an index.
+fn state_at(width: u16, place: u64) -> std::ops::Range<usize> {
+    let size = block_bits(width) as usize / 8;
+    let at = 6 + size * place as usize;
+    at..at + size
+}
+
+/// A fresh run by an open hash: its state before each full block whose number is a multiple of 16.
+fn by_states(width: u16, data: &[u8], bits: u64) -> Indexed {
+    let size = block_bits(width);
+    let mut open = Hash::open(width).unwrap();
+    let mut kept = [
+        width.to_le_bytes().to_vec(),
+        (bits as u32).to_le_bytes().to_vec(),
+    ]
+    .concat();
+    for number in 0..bits / size {
+        if number % 16 == 0 {
+            kept.extend(&open.store()[state_at(width, 0)]);
+        }
+        open.feed(&piece_of(data, number * size, size), size)
+            .unwrap();
+    }
+    let rest = bits % size;
+    open.feed(&piece_of(data, bits - rest, rest), rest).unwrap();
+    Indexed {
+        index: kept,
+        digest: open.take().digest,
+        blocks: bits.div_ceil(size) + 1,
+    }
+}
+
+/// The blocks before the start of a correction.
+fn skipped(width: u16, bits: u64, block: u64) -> u64 {
+    let states = (bits / block_bits(width)).div_ceil(16);
+    16 * (block / 16).min(states.saturating_sub(1))
+}
+
+/// Records of 0 to 34 blocks, with every kind of end.
+fn records(width: u16, bytes: &mut Bytes) -> Vec<(u64, Vec<u8>)> {
+    let size = block_bits(width);
+    [0, 1, 2, 15, 16, 17, 31, 32, 33]
+        .into_iter()
+        .flat_map(|blocks| [0, 1, 7, 8, 9, size - 1].map(|end| blocks * size + end))
+        .map(|bits| (bits, bytes.message(bits)))
+        .collect()
+}
+
+/// Digests and compressions of tests/reference/index_ref.py.
+#[test]
+fn index_of_the_reference() {
+    let mut record = vec![0; 10_000];
+    let before = index(256, &record, 80_000).unwrap();
+    record[9876] = 37;
+    let after = reindex(256, &record, 80_000, &before.index, 9876 / 64).unwrap();
+    for (found, blocks, digest) in [
+        (
+            &before,
+            158,
+            "2c3b772e613e99535e2b3daa6446e4201c7b1f160729a3f064b0a0ee88b28270",
+        ),
+        (
+            &after,
+            14,
+            "b1fee4b433cea2bbf912da12131fc6e126c80f2d79b0f235477a8b8a0a5ec476",
+        ),
+    ] {
+        assert_eq!(found.index.len(), 646);
+        assert_eq!(found.blocks, blocks);
+        assert_eq!(found.digest.to_string(), digest);
+    }
+    assert_eq!(before.index, by_states(256, &[0; 10_000], 80_000).index);
+    assert_eq!(after.index, by_states(256, &record, 80_000).index);
+}
+
+#[test]
+fn indexes_and_corrections_from_every_block() {
+    let mut bytes = Bytes(6);
+    for width in WIDTHS {
+        let size = block_bits(width);
+        for (bits, data) in records(width, &mut bytes) {
+            let old = index(width, &data, bits).unwrap();
+            assert_eq!(old, by_states(width, &data, bits));
+            assert_eq!(Ok(old.digest), hash(width, &data, bits));
+            for block in 0..=bits.div_ceil(size) {
+                let mut new = data.clone();
+                if block * size < bits {
+                    new[(block * size / 8) as usize] ^= 0x80;
+                }
+                let fresh = index(width, &new, bits).unwrap();
+                let found = reindex(width, &new, bits, &old.index, block).unwrap();
+                assert_eq!(found.blocks + skipped(width, bits, block), fresh.blocks);
+                assert_eq!((found.index, found.digest), (fresh.index, fresh.digest));
+                let dirty = bytes.soiled(&new, bits, (block % 3) as usize);
+                let same = reindex(width, &dirty, bits, &old.index, block).unwrap();
+                assert_eq!((same.digest, same.blocks), (fresh.digest, found.blocks));
+                assert_eq!(index(width, &dirty, bits).unwrap().digest, fresh.digest);
+            }
+        }
+    }
+}
+
+/// What the states of an index give: one before the start is carried, that at the start is used, those
+/// behind it are made anew. A number behind the correction gives the digest that was.
+#[test]
+fn index_states_are_taken_as_they_are() {
+    let mut bytes = Bytes(7);
+    for width in WIDTHS {
+        let bits = 34 * block_bits(width) + 5;
+        let mut data = bytes.message(bits);
+        let old = index(width, &data, bits).unwrap();
+        for block in [0, 15, 16, 31, 32, 35] {
+            let start = skipped(width, bits, block) / 16;
+            for place in 0..3 {
+                let mut forged = old.index.clone();
+                forged[state_at(width, place).start] ^= 1;
+                let found = reindex(width, &data, bits, &forged, block).unwrap();
+                assert_eq!(found.digest == old.digest, place != start);
+                let carried = found.index[state_at(width, place)] == forged[state_at(width, place)];
+                assert_eq!(carried, place <= start);
+            }
+        }
+        data[0] ^= 1;
+        let late = reindex(width, &data, bits, &old.index, 16).unwrap();
+        assert_eq!((late.digest, late.index), (old.digest, old.index.clone()));
+        let right = reindex(width, &data, bits, &old.index, 15).unwrap();
+        assert_eq!(Ok(right.digest), hash(width, &data, bits));
+    }
+}
+
+/// 1, 2 and 15, in this order; there is always room, and none is made for a count that no message has.
+#[test]
+fn refusals_of_indexes() {
+    for width in WIDTHS {
+        let size = block_bits(width);
+        let bits = 17 * size + 3;
+        let last = 18;
+        let data = vec![0xa5; bits.div_ceil(8) as usize];
+        let old = index(width, &data, bits).unwrap().index;
+        let refused = |width, bits, old: &[u8], block| {
+            reindex(width, &data, bits, old, block).map(|found| found.blocks)
+        };
+        assert_eq!(refused(width, bits, &old, last), Ok(3));
+        for block in [last + 1, 1 << 32, u64::MAX] {
+            assert_eq!(refused(width, bits, &old, block), Err(Refusal::Index));
+        }
+        for len in (0..old.len()).chain([old.len() + 1, old.len() + size as usize / 8]) {
+            let mut wrong = [&old[..], &old[..]].concat();
+            wrong.truncate(len);
+            assert_eq!(refused(width, bits, &wrong, 0), Err(Refusal::Index));
+        }
+        for place in 0..6 {
+            let mut wrong = old.clone();
+            wrong[place] ^= 1;
+            assert_eq!(refused(width, bits, &wrong, 0), Err(Refusal::Index));
+        }
+        assert_eq!(refused(width, bits - 1, &old, 0), Err(Refusal::Index));
+        for count in [8 * data.len() as u64 + 1, 1 << 32, u64::MAX] {
+            assert_eq!(index(width, &data, count), Err(Refusal::Count));
+            assert_eq!(refused(width, count, &old[1..], 99), Err(Refusal::Count));
+            assert_eq!(index(width + 1, &data, count), Err(Refusal::Width));
+            assert_eq!(
+                refused(width + 1, count, &old[1..], 99),
+                Err(Refusal::Width)
+            );
+        }
+    }
+    let small = index(224, &[0; 64], 512).unwrap().index;
+    assert_eq!(reindex(256, &[0; 64], 512, &small, 0), Err(Refusal::Index));
+    let large = index(384, &[0; 128], 1024).unwrap().index;
+    assert_eq!(
+        reindex(512, &[0; 128], 1024, &large, 0),
+        Err(Refusal::Index)
+    );
+}
+
 #[test]
 fn refusals_have_numbers_and_words() {
     assert_eq!(Refusal::Width.number(), 1);
@@ -723,6 +907,7 @@ fn refusals_have_numbers_and_words() {
     assert_eq!(Refusal::Output.number(), 6);
     assert_eq!(Refusal::Order.number(), 12);
     assert_eq!(Refusal::Entry.number(), 14);
+    assert_eq!(Refusal::Index.number(), 15);
     assert_eq!(Refusal::Output.to_string(), "the output is too short");
 }
 
@@ -808,7 +993,7 @@ fn whole_bytes() {
 fn texts_are_those_of_the_header() {
     let header = include_str!("../../include/simd.h");
     let mut found = 0;
-    for number in 1..=14 {
+    for number in 1..=15 {
         let define = header
             .lines()
             .find(|line| {
@@ -835,5 +1020,5 @@ fn texts_are_those_of_the_header() {
         }
     }
     // 13 is the program's.
-    assert_eq!((found, Refusal::ALL.len()), (13, 13));
+    assert_eq!((found, Refusal::ALL.len()), (14, 14));
 }

@@ -22,6 +22,12 @@ print!("{}", simd::page_entry(9, 256, digest.as_bytes())?); // an entry of a pag
 
 let quote = digest.quote();                                 // as seal prints it
 println!("{quote} {}", simd::quote_check(quote.as_bytes()));    // true: its check digits are right
+
+let mut record = vec![0; 10_000];                           // a record, and its index beside it
+let old = simd::index(256, &record, 80_000)?;
+record[9876] = 37;                                          // corrected in block 9876 / 64
+let new = simd::reindex(256, &record, 80_000, &old.index, 9876 / 64)?;
+println!("{} {}", new.digest, new.blocks);                  // 14 of the 158 blocks compressed again
 // end
     Ok(())
 }

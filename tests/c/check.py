@@ -21,6 +21,7 @@ ROOT = os.path.dirname(os.path.dirname(HERE))
 sys.path.insert(0, os.path.dirname(HERE))
 from tally import Tally  # noqa: E402
 import hmac_ref  # noqa: E402
+import index_ref  # noqa: E402
 import page_ref  # noqa: E402
 import quote_ref  # noqa: E402
 import simd_ref as ref  # noqa: E402
@@ -33,6 +34,7 @@ STRICT = ["-Wall", "-Wextra", "-Wpedantic", "-Werror"]
 STRICTER = STRICT + ["-Wconversion", "-Wsign-conversion", "-Wshadow", "-Wcast-qual", "-Wundef",
                      "-Wunused"]
 ALLOWED = {"memcpy", "memset"}
+RECORD = (10000, 9876, 37)      # of the examples: its bytes, the place that is corrected and its new value
 
 tally = Tally("header")
 
@@ -113,7 +115,7 @@ def check_compilers():
         written(os.path.join("stubs", name), "")
     status, text, _ = run(["gcc", "-std=c99", "-E", "-P", "-U__GNUC__", "-nostdinc", "-I" + stubs,
                            INCLUDE, os.path.join(BUILT, "alone.c")])
-    tally.equal((status, text.count("uint8_t simd_"), "__attribute__" in text), (0, 17, False),
+    tally.equal((status, text.count("uint8_t simd_"), "__attribute__" in text), (0, 19, False),
                 "no attributes where they are not known")
 
 
@@ -133,6 +135,8 @@ CARELESS_CALLS = [
     ("-Werror=unused-result", "simd_page_entry(1, 256, form, 32, out, 76);"),
     ("-Werror=unused-result", "simd_quote(256, form, 32, out, 18);"),
     ("-Werror=unused-result", "simd_quote_check(out, 18, number);"),
+    ("-Werror=unused-result", "simd_index(256, form, 1, 8, out, 6, out + 6, 32, number);"),
+    ("-Werror=unused-result", "simd_reindex(256, form, 1, 8, form, 6, 0, out, 6, out + 6, 32, number);"),
     ("-Werror=nonnull", "answer = simd_open(256, NULL, 0);"),
     ("-Werror=nonnull", "answer = simd_feed(form, 134, NULL, 0, 0, number);"),
     ("-Werror=nonnull", "answer = simd_hash(256, NULL, 0, 0, out, 32);"),
@@ -145,6 +149,10 @@ CARELESS_CALLS = [
     ("-Werror=nonnull", "answer = simd_quote(256, form, 32, NULL, 0);"),
     ("-Werror=nonnull", "answer = simd_quote_check(NULL, 0, number);"),
     ("-Werror=nonnull", "answer = simd_quote_check(out, 18, NULL);"),
+    ("-Werror=nonnull", "answer = simd_index(256, NULL, 0, 0, out, 6, out + 6, 32, number);"),
+    ("-Werror=nonnull", "answer = simd_index(256, form, 1, 8, out, 6, out + 6, 32, NULL);"),
+    ("-Werror=nonnull", "answer = simd_reindex(256, form, 1, 8, NULL, 0, 0, out, 6, out + 6, 32, number);"),
+    ("-Werror=nonnull", "answer = simd_reindex(256, form, 1, 8, form, 6, 0, NULL, 0, out, 32, number);"),
     ("-Werror=overflow", "answer = simd_open(65792, form, sizeof form);"),
 ]
 
@@ -180,9 +188,20 @@ def quotes(data):
     return "%s right\n%s%s%s wrong\n" % (quote, quote[1], quote[0], quote[2:])
 
 
+def indexed(size, place, value):
+    """What the programs print that index a record of zeros and correct one byte of it: digest and
+    compressions of both runs."""
+    record, block = bytearray(size), place // ref.block_bytes(256)
+    old, first, total = index_ref.fresh(256, record, 8 * size)
+    record[place] = value
+    _, second, fewer = index_ref.corrected(256, record, 8 * size, old, block)
+    tally.equal(second, ref.digest(256, record, 8 * size), "the digest of the corrected record")
+    return "%s %d\n%s %d\n" % (first.hex(), total, second.hex(), fewer)
+
+
 def check_examples():
     found = examples(HEADER)
-    tally.equal(sorted(found), ["keyed.c", "page.c", "quote.c", "stream.c", "vector.cpp", "whole.c"],
+    tally.equal(sorted(found), ["index.c", "keyed.c", "page.c", "quote.c", "stream.c", "vector.cpp", "whole.c"],
                 "the header's examples")
     for name, text in found.items():
         source = written(name, text)
@@ -198,6 +217,8 @@ def check_examples():
                 tally.equal(run([built]), (0, page(b"abc"), ""), name)
             elif name == "quote.c":
                 tally.equal(run([built]), (0, quotes(b"abc"), ""), name)
+            elif name == "index.c":
+                tally.equal(run([built]), (0, indexed(*RECORD), ""), name)
             elif name == "vector.cpp":
                 tally.equal(run([built]), (0, digest(512, b""), ""), name)
             else:
@@ -222,7 +243,7 @@ def check_readme():
     """README's programs in C, as they stand, and what it shows of the output of all but the first."""
     readme = read("README.md")
     texts = fenced(readme, "c")
-    printed = [digest(256, b"abc"), keyed(b"group", b"abc"), page(b"abc"), quotes(b"abc")]
+    printed = [digest(256, b"abc"), keyed(b"group", b"abc"), page(b"abc"), quotes(b"abc"), indexed(*RECORD)]
     tally.equal(len(texts), len(printed), "the programs in C")
     for expected in printed[1:]:
         tally.equal("\n```\n%s```\n" % expected in readme, True, "README's output of a program in C")
@@ -248,14 +269,14 @@ int main(void)
 def check_texts():
     """A text of its own for each number; one version in all places."""
     numbers = [int(n) for n in re.findall(r"^#define SIMD_(?:ACCEPTED|REFUSED_\w+) (\d+)", HEADER, re.M)]
-    tally.equal(numbers, list(range(15)), "the numbers")
+    tally.equal(numbers, list(range(16)), "the numbers")
     built = program(written("texts.c", TEXTS), ["gcc", "-std=c99"])
     if not built:
         return
     *texts, joined, version = run([built])[1].splitlines()
-    tally.equal(len(set(texts[:15])), 15, "a text for each number")
-    tally.equal([k for k in range(15) if texts[k].startswith("retired: ")], [3], "the retired number")
-    tally.equal(set(texts[15:]), {"no such refusal"}, "no text for other numbers")
+    tally.equal(len(set(texts[:16])), 16, "a text for each number")
+    tally.equal([k for k in range(16) if texts[k].startswith("retired: ")], [3], "the retired number")
+    tally.equal(set(texts[16:]), {"no such refusal"}, "no text for other numbers")
     tally.equal(version, joined, "SIMD_VERSION and its parts")
     cargo = re.search(r'^version = "(.*)"', read("rust", "Cargo.toml"), re.M).group(1)
     tally.equal(cargo, version, "the version in rust/Cargo.toml")

@@ -1,9 +1,10 @@
 /* Use of include/simd.h from C: hash, feed in pieces, store, restore, seal under
    a key, compare, run a tape, all of these with bits past the count, print a page,
-   quote a digest and check the quote.  Prints how many answers it checked; the exit
-   status is 0 where all were right.  The digests are those of appendix A, the tags
-   those of tests/reference/hmac_ref.py, the pages those of printf, the quotes those
-   of tests/reference/quote_ref.py. */
+   quote a digest and check the quote, index a record and correct it.  Prints how many
+   answers it checked; the exit status is 0 where all were right.  The digests are
+   those of appendix A, the tags those of tests/reference/hmac_ref.py, the pages those
+   of printf, the quotes those of tests/reference/quote_ref.py, the digests of records
+   those of tests/reference/index_ref.py. */
 
 #include <stdio.h>
 #include <string.h>
@@ -32,12 +33,13 @@ static int is_hex(const uint8_t *data, size_t len, const char *hex)
 
 /* The message 00 01 .. of one block, and 700 or 1,079 bits of 1; the tag of these
    under the key 00 01 .. of one byte more than a block, and that of no bits under
-   an empty key; the quote of the first digest. */
+   an empty key; the quote of the first digest; the digest of a record, as check_index
+   makes it, before and after its correction. */
 struct vector {
     uint16_t width;
     const char *block_digest, *ones_digest;
     uint64_t ones;
-    const char *ones_tag, *empty_tag, *block_quote;
+    const char *ones_tag, *empty_tag, *block_quote, *record_digest, *corrected_digest;
 };
 
 static const struct vector VECTORS[] = {
@@ -45,7 +47,9 @@ static const struct vector VECTORS[] = {
           "e80b4eeb8a370e6ca918e7810400441f6dd0da1eb4559cade791c314f82d524a", 700,
           "5b25769239ce0f5b47310280d9f0ee6a6dd9cf876844c2354e00f5bc03a210f2",
           "347dc33e88a7b86b371110276081a67a928649181d22b46f7fce262866e928ba",
-          "5bebdb816cd3e6c880"},
+          "5bebdb816cd3e6c880",
+          "18e9c9c09c6317f569e3799ce7c41dec92b55b32113d4db05aad6d8c795f8e80",
+          "b2c994022236779b62498493bf016bb3b5fd77348a917b6e36072e93c9ec353a"},
     {512, "8851ad0a57426b4af57af3294706c0448fa6accf24683fc239871be58ca913fb"
           "ee53e35c1dedd88016ebd131f2eb0761e97a3048de6e696787fd5f54981d6f2c",
           "c060fa9aae2414715a3a27c5df22dbd41469e3d09056b093861f0f6b9bdc311a"
@@ -54,7 +58,11 @@ static const struct vector VECTORS[] = {
           "e95911bc4802642a6891d58466226c7b91ad7cf36aa9d9da4d1118cefa90ecbd",
           "6c891206f82e90f4b311c6d15c6e375766c8fd0083f97dc1ef8d0f09dc280035"
           "d597b068e69f9567aa6975048b89fa61dd70a757e8fa78b4dab5f493df264b3c",
-          "8851ad0a57426b4a96"},
+          "8851ad0a57426b4a96",
+          "5cd169c515988a0380df47dddf4b02d6feef21c46b3aeb455d3ae1337f6e8351"
+          "6d563409a76c3de2e28bdf4ed72ee154d6eddbb052cb8492a8ce696940d07644",
+          "a6b04d17095080e2d56b61bf8b8f0a72ac47ea4512cb0ee5160746999cc2640f"
+          "e5b862db2d243305b61ab51c407473b77e0aefe6fd2a3ad60811c8d1848c6f05"},
 };
 
 static void check_hash(const struct vector *v)
@@ -577,6 +585,158 @@ static void check_quote(const struct vector *v)
           "refusals of a quote");
 }
 
+/* The sizes of indexes; each argument of the macro is evaluated once. */
+static void check_index_sizes(void)
+{
+    static const struct {
+        uint16_t width;
+        uint64_t bits;
+        size_t size;
+    } SIZES[] = {
+        {224, 0, 6}, {256, 511, 6}, {256, 512, 70}, {224, 8703, 70}, {256, 8704, 134},
+        {256, 524288, 4102}, {384, 0, 6}, {512, 1023, 6}, {512, 1024, 134}, {384, 17407, 134},
+        {512, 17408, 262}, {512, 524288, 4102}, {256, SIMD_BITS_MAX, 33554438},
+        {512, SIMD_BITS_MAX, 33554438},
+    };
+    static const uint16_t widths[2] = {256, 512};
+    static const uint64_t counts[2] = {8704, 17408};
+    const uint16_t *w = widths;
+    const uint64_t *n = counts;
+    uint8_t room[SIMD_INDEX(512, 17408)];
+    size_t k;
+    for (k = 0; k < sizeof SIZES / sizeof *SIZES; k++)
+        check(SIMD_INDEX(SIZES[k].width, SIZES[k].bits) == SIZES[k].size, "the size of an index");
+    check(SIMD_INDEX(*w++, *n++) == 134, "the size of an index, small family");
+    check(SIMD_INDEX(*w++, *n++) == 262, "the size of an index, large family");
+    check(w == widths + 2 && n == counts + 2, "each argument once");
+    check(sizeof room == 262, "the size of an index, by constants");
+}
+
+enum { RECORD_BLOCKS = 40, STATES = 3, RECORD = (RECORD_BLOCKS + 1) * SIMD_BLOCK_LARGE };
+
+/* A record with other bits and bytes behind it, and what runs leave: the first one's
+   index is what the corrections are given. */
+static uint8_t record[RECORD];
+static struct run {
+    uint8_t index[SIMD_HEAD + STATES * SIMD_BLOCK_LARGE + GUARD], out[SIMD_DIGEST_MAX + GUARD];
+    uint64_t blocks;
+} first, second, fresh;
+
+static void wipe(struct run *run)
+{
+    memset(run, 0x5a, sizeof *run);
+}
+
+static uint8_t index_it(struct run *run, uint16_t width, uint64_t bits, size_t room, size_t out_len)
+{
+    wipe(run);
+    return simd_index(width, record, (size_t)(bits + 7) / 8, bits, run->index, room, run->out,
+                      out_len, &run->blocks);
+}
+
+static uint8_t correct_it(uint16_t width, uint64_t bits, size_t old_len, uint64_t block, size_t room,
+                          size_t out_len)
+{
+    wipe(&second);
+    return simd_reindex(width, record, sizeof record, bits, first.index, old_len, block,
+                        second.index, room, second.out, out_len, &second.blocks);
+}
+
+/* A correction that is refused, and writes nothing. */
+static void check_refused(uint8_t refusal, uint16_t width, uint64_t bits, size_t old_len,
+                          uint64_t block, size_t room, size_t out_len)
+{
+    wipe(&fresh);
+    check(correct_it(width, bits, old_len, block, room, out_len) == refusal
+              && memcmp(&second, &fresh, sizeof fresh) == 0,
+          "a correction refused");
+}
+
+/* A record of 40 blocks and 13 bits: its index, beside the states of an open hash, and a
+   correction in every block; a state and a number that are not those of the record; then
+   the refusals, in their order. */
+static void check_index(const struct vector *v)
+{
+    uint8_t form[SIMD_FORM_LARGE];
+    size_t size = SIMD_BLOCK(v->width), digest_len = SIMD_DIGEST(v->width), k;
+    uint64_t bits = RECORD_BLOCKS * 8 * (uint64_t)size + 13, last = RECORD_BLOCKS + 1, block, fed;
+    size_t len = SIMD_INDEX(v->width, bits), at = SIMD_HEAD + size;
+    uint16_t width = v->width, other = v->width == 256 ? 224 : 384;
+    const uint8_t *index = first.index;
+    for (k = 0; k < sizeof record; k++)
+        record[k] = (uint8_t)(167 * k + (k >> 8));
+    check(index_it(&first, width, bits, len + GUARD, digest_len + GUARD) == SIMD_ACCEPTED
+              && is_hex(first.out, digest_len, v->record_digest) && first.blocks == last + 1,
+          "a record with its index");
+    wipe(&fresh);
+    check(memcmp(index + len, fresh.index, GUARD) == 0
+              && memcmp(first.out + digest_len, fresh.out, GUARD) == 0,
+          "what lies behind an index and its digest");
+    check(len == SIMD_HEAD + STATES * size && index[0] == (width & 255) && index[1] == width >> 8
+              && index[2] == (bits & 255) && index[3] == bits >> 8 && index[4] == 0 && index[5] == 0,
+          "the front of an index");
+    check(simd_open(width, form, sizeof form) == SIMD_ACCEPTED, "open");
+    for (k = 0; k < STATES; k++) {
+        check(memcmp(index + SIMD_HEAD + k * size, form + SIMD_HEAD, size) == 0,
+              "a state of an index");
+        check(simd_feed(form, SIMD_FORM(width), record + 16 * k * size, sizeof record - 16 * k * size,
+                        k < 2 ? 128 * (uint64_t)size : 0, &fed)
+                  == SIMD_ACCEPTED,
+              "feed 16 blocks");
+    }
+
+    for (block = 0; block <= last; block++) {
+        uint64_t skipped = block < 32 ? block / 16 * 16 : 32;
+        if (block < last)
+            record[block * size] ^= 0x10;
+        check(index_it(&fresh, width, bits, len, digest_len) == SIMD_ACCEPTED
+                  && correct_it(width, bits, len, block, len, digest_len) == SIMD_ACCEPTED
+                  && second.blocks + skipped == fresh.blocks,
+              "a correction");
+        second.blocks = fresh.blocks;
+        check(memcmp(&second, &fresh, sizeof fresh) == 0, "a correction is a fresh run");
+        if (block == 37)
+            check(is_hex(second.out, digest_len, v->corrected_digest), "the corrected digest");
+        if (block < last)
+            record[block * size] ^= 0x10;
+    }
+
+    /* A number behind the correction: the states give what they gave. */
+    record[3 * size] ^= 1;
+    check(correct_it(width, bits, len, 16, len, digest_len) == SIMD_ACCEPTED
+              && memcmp(second.index, index, len) == 0
+              && memcmp(second.out, first.out, digest_len) == 0,
+          "a number behind the correction");
+    record[3 * size] ^= 1;
+    /* Another state before block 0 is used and carried. */
+    first.index[SIMD_HEAD] ^= 1;
+    check(correct_it(width, bits, len, 0, len, digest_len) == SIMD_ACCEPTED
+              && second.blocks == last + 1 && memcmp(second.index, index, at) == 0
+              && memcmp(second.index + at, index + at, size) != 0
+              && memcmp(second.out, first.out, digest_len) != 0,
+          "another state before block 0");
+    first.index[SIMD_HEAD] ^= 1;
+
+    check_refused(SIMD_REFUSED_WIDTH, width + 1, 8 * RECORD + 1, len - 1, last + 1, 0, 0);
+    check_refused(SIMD_REFUSED_COUNT, width, 8 * RECORD + 1, len - 1, last + 1, 0, 0);
+    check_refused(SIMD_REFUSED_INDEX, width, bits, len - 1, last + 1, 0, 0);
+    check_refused(SIMD_REFUSED_INDEX, width, bits, len - 1, 0, len, digest_len);
+    check_refused(SIMD_REFUSED_INDEX, width, bits, len + 1, 0, len, digest_len);
+    check_refused(SIMD_REFUSED_INDEX, width, bits, 0, 0, len, digest_len);
+    check_refused(SIMD_REFUSED_INDEX, other, bits, len, 0, len, digest_len);
+    check_refused(SIMD_REFUSED_INDEX, width, bits - 1, len, 0, len, digest_len);
+    check_refused(SIMD_REFUSED_INDEX, width, bits, len, last + 1, len, digest_len);
+    check_refused(SIMD_REFUSED_INDEX, width, bits, len, UINT64_C(4294967296), len, digest_len);
+    check_refused(SIMD_REFUSED_INDEX, width, bits, len, UINT64_MAX, len, digest_len);
+    check_refused(SIMD_REFUSED_OUTPUT, width, bits, len, last, len - 1, digest_len);
+    check_refused(SIMD_REFUSED_OUTPUT, width, bits, len, last, len, digest_len - 1);
+    check(index_it(&second, width + 1, bits, 0, 0) == SIMD_REFUSED_WIDTH
+              && index_it(&second, width, bits, len - 1, digest_len) == SIMD_REFUSED_OUTPUT
+              && index_it(&second, width, bits, len, digest_len - 1) == SIMD_REFUSED_OUTPUT
+              && memcmp(&second, &fresh, sizeof fresh) == 0,
+          "a fresh run refused");
+}
+
 int main(void)
 {
     size_t k;
@@ -591,7 +751,9 @@ int main(void)
         check_parts(&VECTORS[k]);
         check_page(&VECTORS[k]);
         check_quote(&VECTORS[k]);
+        check_index(&VECTORS[k]);
     }
+    check_index_sizes();
     printf("c: %u compared, %u differ\n", compared, differ);
     return differ != 0;
 }

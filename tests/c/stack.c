@@ -20,10 +20,11 @@ static ucontext_t outside, inside;
 /* What the calls are lent, and what they answer. */
 static uint16_t width;
 static uint8_t form[SIMD_FORM_LARGE], keyed[SIMD_HMAC_FORM_LARGE], a[LONG], b[LONG], out[LONG];
+static uint8_t old[SIMD_INDEX(256, 8 * LONG) + 1], made[sizeof old];
 static uint32_t words[SIMD_WORDS_LARGE];
 static size_t form_len, keyed_len, key_len, tag_len, block_len, tape_len, digest_len, entry_len;
-static size_t quote_len;
-static uint64_t bits, other_bits, number, second, entry;
+static size_t quote_len, old_len, made_len;
+static uint64_t bits, other_bits, number, second, entry, block;
 static volatile uint8_t answer;
 
 /* The stack pointer before the call's arguments are put in place. */
@@ -132,6 +133,19 @@ static void call_quote_check(void)
     answer = simd_quote_check(out, quote_len, &number);
 }
 
+static void call_index(void)
+{
+    MARK();
+    answer = simd_index(width, a, sizeof a, bits, made, made_len, out, sizeof out, &number);
+}
+
+static void call_reindex(void)
+{
+    MARK();
+    answer = simd_reindex(width, a, sizeof a, bits, old, old_len, block, made, made_len,
+                          out, sizeof out, &number);
+}
+
 static struct bound {
     const char *name;
     size_t bound, used;
@@ -155,10 +169,12 @@ static struct bound {
     {"simd_page_entry", SIMD_STACK_PAGE_ENTRY, 0, call_page_entry, 0, 0},
     {"simd_quote", SIMD_STACK_QUOTE, 0, call_quote, 0, 0},
     {"simd_quote_check", SIMD_STACK_QUOTE_CHECK, 0, call_quote_check, 0, 0},
+    {"simd_index", SIMD_STACK_INDEX, 0, call_index, 0, 0},
+    {"simd_reindex", SIMD_STACK_REINDEX, 0, call_reindex, 0, 0},
 };
 enum {
     OPEN, FEED, TAKE, HASH, HMAC_OPEN, HMAC_FEED, HMAC_TAKE, HMAC_CHECK, HMAC,
-    EXPAND, STEPS, UNSTEPS, COMPARE, TAPE, PAGE_ENTRY, QUOTE, QUOTE_CHECK, CALLS
+    EXPAND, STEPS, UNSTEPS, COMPARE, TAPE, PAGE_ENTRY, QUOTE, QUOTE_CHECK, INDEX, REINDEX, CALLS
 };
 
 static uint64_t pattern(size_t k)
@@ -297,6 +313,27 @@ static void measure_quotes(void)
     }
 }
 
+/* An index of the message in a, and corrections from the blocks round each kept state
+   and from the last ones; then one for which the index is a byte longer, and both for
+   which the new one is a byte short. */
+static void measure_indexes(void)
+{
+    uint64_t last = (bits + 8 * block_len - 1) / (8 * block_len);
+    old_len = made_len = SIMD_INDEX(width, bits);
+    measure(INDEX);
+    memcpy(old, made, sizeof old);
+    for (block = 0; block <= last + 1; block++)
+        if (block % 16 < 2 || block + 2 >= last)
+            measure(REINDEX);
+    block = 0;
+    old_len++;
+    measure(REINDEX);
+    old_len--;
+    made_len--;
+    measure(INDEX);
+    measure(REINDEX);
+}
+
 int main(void)
 {
     static const uint16_t WIDTHS[] = {224, 256, 384, 512, 160};
@@ -314,6 +351,7 @@ int main(void)
         for (c = 0; c < sizeof COUNTS / sizeof *COUNTS; c++) {
             message(COUNTS[c], LONG);
             measure(HASH);
+            measure_indexes();
             measure(COMPARE);
             message(COUNTS[c], 0);
             measure(COMPARE);

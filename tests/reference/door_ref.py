@@ -7,6 +7,7 @@ the call of everything that was lent.
 """
 
 import hmac_ref
+import index_ref
 import page_ref
 import quote_ref
 import simd_ref as ref
@@ -289,3 +290,28 @@ def quote(width, digest, out):
 def quote_check(quote, right=0):
     """Nothing is refused, and the verdict is written whatever it was before."""
     return 0, int(quote_ref.is_right(quote))
+
+
+def rooms_refusal(width, bits, index, out):
+    """That of the two outputs of a run with an index."""
+    return 6 if len(index) < index_ref.size(width, bits) or len(out) < width // 8 else 0
+
+
+def index(width, message, bits, index, out, blocks=0):
+    refusal = (width_refusal(width) or piece_refusal(message, bits)
+               or rooms_refusal(width, bits, index, out))
+    if refusal:
+        return refusal, index, out, blocks
+    made, digest, count = index_ref.fresh(width, message, bits)
+    return 0, over(made, index), over(digest, out), count
+
+
+def reindex(width, message, bits, old, block, index, out, blocks=0):
+    refusal = width_refusal(width) or piece_refusal(message, bits)
+    if not refusal and not index_ref.fits(width, bits, old, block):
+        refusal = 15
+    refusal = refusal or rooms_refusal(width, bits, index, out)
+    if refusal:
+        return refusal, index, out, blocks
+    made, digest, count = index_ref.corrected(width, message, bits, old, block)
+    return 0, over(made, index), over(digest, out), count

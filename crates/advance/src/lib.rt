@@ -10,17 +10,7 @@ ghost use Rattle.simd.specs.Message.{byteOf, message};
 ghost use Rattle.bits.specs.Zero.{allZero};
 ghost use Rattle.advance.specs.Joined.{Ready, Joins};
 
-// The full blocks of a number of bits, and the bytes of a number of blocks.
-fn full_blocks(width: u16, bits: usize) -> usize
-    ensures { λ r. ⌜ r ≡ bits / blockBits (familyOf width) ⌝ }
-{
-    if width <= 256 {
-        bits / 512
-    } else {
-        bits / 1024
-    }
-}
-
+// The bytes of a number of blocks.
 fn bytes_of_blocks(width: u16, blocks: usize) -> usize
     requires { ⌜ blocks < 2 ^ 32 ⌝ }
     ensures { λ r. ⌜ r ≡ blockBytes (familyOf width) * blocks ⌝ }
@@ -45,7 +35,7 @@ fn join(
     ensures { λ r. ⌜ Joins width used (now (state .entry)) (now (tail .entry)) (now (src .entry)) (8 * length (now (src .entry)))
         ((used + count) / blockBits (familyOf width)) (now (state .exit)) (now (tail .exit)) r ⌝ }
 {
-    let blocks = full_blocks(width, used + count);
+    let blocks = tail::full_blocks(width, used + count);
     let at = used / 8;
     let scale = bits::scale_of(used % 8);
     let carry = tail[at];

@@ -1,36 +1,23 @@
 -- The final state of a message, from the state after its first blocks: the bits of these, and the message of the bytes behind, are the whole.
 use mathlib.Core.Bool.{Bool, true}
-use mathlib.Core.List.{List, _++_}
-use mathlib.Core.Path.{_≡_, sym, ap, _∙_}
-use Prim.Native.Nat.{ℕ, _+_, _*_, _-_, _/_, _%_, _≤_}
-use native.Mathlib.Omega.{arith}
-use lib.ListN.{length, take, drop, length-take}
-use lib.Seq.{drop-at}
-use Rattle.simd.specs.Basic.{Family, small, large, familyOf, isWidth, blockBytes, blockBits, stateWords}
+use mathlib.Core.List.{List}
+use mathlib.Core.Path.{_≡_, ap, _∙_}
+use Prim.Native.Nat.{ℕ, _*_, _-_, _/_, _%_, _≤_}
+use lib.ListN.{length, take, drop}
+use Rattle.simd.specs.Basic.{Family, familyOf, isWidth, blockBytes, stateWords}
 use Rattle.simd.specs.Constants.{start}
 use Rattle.simd.specs.Message.{bitsOf, message, messageBlocks, lengthBlock}
 use Rattle.simd.specs.Steps.{compression}
 use Rattle.simd.specs.Hash.{chain, final, finalState}
-use Rattle.laws.proofs.Bits.{length-bitsOf}
-use Rattle.laws.proofs.Chain.{length-compression, chain-add, chain-append}
+use Rattle.laws.proofs.Chain.{length-compression}
 use Rattle.iteration.specs.Blocks.{absorbed}
 use Rattle.bits.specs.Zero.{padded}
 use Rattle.bits.proofs.Zeros.{take-padded}
 use Rattle.tail.proofs.Sizes.{words-within, chain-length}
 use Rattle.hash.proofs.Feeding.{length-message, start-length}
+use Rattle.hash.proofs.Splitting.{chain-split}
 use Rattle.pairs.specs.Lists.{equal}
-use Rattle.pairs.proofs.ByteLaws.{message-split}
 use Rattle.pairs.proofs.PaddedLaws.{equal-padded}
-
--- The bits of whole blocks, and the blocks of the rest behind them.
-whole-blocks : (f : Family) (n : ℕ) → n % blockBytes f ≡ 0 → 8 * n ≡ blockBits f * (n / blockBytes f)
-whole-blocks small n e = omega arith
-whole-blocks large n e = omega arith
-
-rest-blocks : (f : Family) (m n : ℕ) → n % blockBytes f ≡ 0 → 8 * n ≤ m → messageBlocks f m ≡ n / blockBytes f + messageBlocks f (m - 8 * n)
-unfolding messageBlocks
-rest-blocks small m n e low = omega arith
-rest-blocks large m n e low = omega arith
 
 module _ (width : ℕ) (known : isWidth width ≡ true) (x : List ℕ) (m at : ℕ) (within : m ≤ 8 * length x)
     (whole : at % blockBytes (familyOf width) ≡ 0) (before : 8 * at ≤ m) where
@@ -54,17 +41,6 @@ module _ (width : ℕ) (known : isWidth width ≡ true) (x : List ℕ) (m at : �
       ap (take (stateWords f)) begin ∙ take-padded 32 (stateWords f) from (start-length width known) (words-within f) in
       step ∙ rw (words, size, first)
 
-  -- The state after all message blocks.
-  on : chain f (chain f from front (at / blockBytes f)) rest (messageBlocks f (m - 8 * at)) ≡ chain f from (message x m) (messageBlocks f m)
-  on =
-      let blocks = at / blockBytes f in
-      let size : length front ≡ blockBits f * blocks =
-      omega (arith, length-bitsOf (take at x), length-take at x, whole-blocks f at whole) in
-      sym (chain-add f from (front ++ rest) blocks (messageBlocks f (m - 8 * at))
-      ∙ (λ i. chain f (chain-append f from front rest blocks (omega (arith, size)) i) (drop-at front rest (blockBits f * blocks) size i)
-      (messageBlocks f (m - 8 * at))))
-      ∙ (λ i. chain f from (sym (message-split x m at within before) i) (sym (rest-blocks f m at whole before) i))
-
   -- The rest and the length block.
   pub final-state : {t u q : List ℕ} → t ≡ padded 32 (chain f from front (at / blockBytes f)) → q ≡ drop at x
       → u ≡ padded 32 (compression f true (chain f (take (stateWords f) t) (message q (m - 8 * at)) (messageBlocks f (m - 8 * at))) (lengthBlock f m))
@@ -74,7 +50,7 @@ module _ (width : ℕ) (known : isWidth width ≡ true) (x : List ℕ) (m at : �
       let words : take (stateWords f) t ≡ chain f from front (at / blockBytes f) =
       ap (take (stateWords f)) reached
       ∙ take-padded 32 (stateWords f) _ (chain-length f from front (at / blockBytes f) (start-length width known)) (words-within f) in
-      step ∙ rw (words, read, on, length-message x m within)
+      step ∙ rw (words, read, chain-split f from x m at within whole before, length-message x m within)
 
 -- The final states, with zeros behind them, are equal exactly where they are without.
 pub final-test : (width : ℕ) (a b : List ℕ) {s t : List ℕ} {r : Bool} → s ≡ padded 32 (finalState width a)

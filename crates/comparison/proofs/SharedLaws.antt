@@ -8,8 +8,8 @@ use lib.ListN.{length, take, drop, length-drop}
 use lib.Seq.{take-add}
 use Rattle.simd.specs.Basic.{Family, small, large, blockBytes}
 use Rattle.simd.specs.Message.{bitsOf, message}
+use Rattle.hash.proofs.Splitting.{message-split}
 use Rattle.pairs.specs.Lists.{equal}
-use Rattle.pairs.proofs.ByteLaws.{message-split}
 use Rattle.pairs.proofs.ListLaws.{equal-true, equal-behind}
 use Rattle.comparison.specs.Shared.{Shared}
 

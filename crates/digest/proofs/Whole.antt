@@ -7,7 +7,7 @@ use native.Mathlib.Omega.{arith}
 use borrow.Author.Tests.{leb-true, lt-leb, le-leb}
 use borrow.Rule.Slice.PartMut.{postOf}
 use lib.Dec.{leb}
-use lib.ListN.{length, take, length-take}
+use lib.ListN.{length, take}
 use Rattle.simd.specs.Basic.{Family, familyOf, isWidth, stateWords, bytesOf, digestBytes}
 use Rattle.simd.specs.Constants.{start}
 use Rattle.simd.specs.Message.{message, messageBlocks, lengthBlock}
@@ -17,11 +17,9 @@ use Rattle.laws.proofs.Chain.{length-compression}
 use Rattle.bits.specs.Zero.{padded}
 use Rattle.bits.proofs.Zeros.{take-padded}
 use Rattle.tail.proofs.Sizes.{words-within}
-use Rattle.little_endian.proofs.Writing.{state-bytes}
 use Rattle.hash.specs.Open.{pieceRefusal, written}
 use Rattle.hash.proofs.Feeding.{length-message, start-length}
-use Rattle.hash.proofs.Digests.{digest-room, length-digest}
-use Rattle.hash.proofs.Answers.{front-written}
+use Rattle.hash.proofs.Answers.{state-written}
 use Rattle.hash.proofs.Refusing.{first-refused, first-accepted, passed, both-passed, Accepted as MessageAccepted, accepted as message-accepted}
 use Rattle.digest.specs.Call.{digestRefusal}
 
@@ -92,11 +90,5 @@ module _ (width : ℕ) (bytes : List ℕ) (count room : ℕ) (a : Accepted width
   digest-written k sized out state state′ front long begun stated wrote =
       let m = message bytes count in
       let n = length m in
-      let size : length (take (k - 0) out) ≡ digestBytes width = omega (arith, length-take (k - 0) out, a .enough) in
       let words = length-compression f true (chain f (start width) m (messageBlocks f n)) (lengthBlock f n) in
-      let ended = finished state state′ begun stated in
-      let same : front ≡ digest width m =
-      wrote ∙ (λ i. take (size i) (bytesOf (ended i)))
-      ∙ state-bytes (digestBytes width) (finalState width m) (omega (arith, words, digest-room width (a .known)))
-      (omega (arith, words, words-within f)) in
-      front-written k front out (ap length same ∙ length-digest width (a .known) m ∙ sym sized) ∙ ap (λ (b : List ℕ). written 0 b out) same
+      state-written width (a .known) (finalState width m) out words (omega (arith, a .enough, long)) sized (finished state state′ begun stated) wrote

@@ -1,8 +1,8 @@
--- What a stored form starts with: its width in 2 bytes, and its bit length.
-use mathlib.Core.List.{List}
+-- What a stored form and an index start with, their head: a width in 2 bytes, and a bit length.
+use mathlib.Core.List.{List, _++_}
 use Prim.Native.Nat.{ℕ, _+_}
 use lib.ListN.{drop}
-use Rattle.little_endian.specs.Numbers.{number}
+use Rattle.little_endian.specs.Numbers.{littleEndian, number}
 
 -- The bytes of the bit length, and of both.
 abbrev pub lengthBytes : ℕ
@@ -10,6 +10,9 @@ lengthBytes = 4
 
 abbrev pub headBytes : ℕ
 headBytes = 2 + lengthBytes
+
+abbrev pub head : ℕ → ℕ → List ℕ
+head width bits = littleEndian 2 width ++ littleEndian lengthBytes bits
 
 unfoldable pub formWidth : List ℕ → ℕ
 formWidth form = number 2 form

@@ -1,4 +1,4 @@
-// The bytes of a stored form, written and read part by part.
+// The bytes of a stored form, written and read part by part; its head, and bytes copied, serve an index too.
 
 ghost use mathlib.Core.Path.{_≡_};
 ghost use mathlib.Core.List.{_++_};
@@ -6,16 +6,15 @@ ghost use Prim.Native.Nat.{_+_, _*_, _%_, _≤_};
 ghost use lib.ListN.{length, take, drop};
 ghost use Rattle.simd.specs.Basic.{bytesOf, wordsOf};
 ghost use Rattle.bits.specs.Zero.{padded};
-ghost use Rattle.little_endian.specs.Numbers.{littleEndian};
-ghost use Rattle.form.specs.Head.{lengthBytes, headBytes, formWidth, formBits};
+ghost use Rattle.form.specs.Head.{headBytes, head, formWidth, formBits};
 
-// The bytes of a bit length, and of a form before its state: a width in 2 bytes and a bit length.
+// The bytes of a bit length, and of a head: a width in 2 bytes and a bit length.
 const LENGTH_BYTES: usize = 4;
 
 pub const HEAD_BYTES: usize = 2 + LENGTH_BYTES;
 
 // Writes the first bytes of a source, as many as the buffer takes.
-fn write_bytes(out: &mut [u8], src: &[u8])
+pub fn write_bytes(out: &mut [u8], src: &[u8])
     requires { ⌜ length (now out) ≤ length (now src) ⌝ }
     ensures { λ _. ⌜ now (out .exit) ≡ take (length (now (out .entry))) (now (src .entry)) ⌝ }
 {
@@ -26,17 +25,25 @@ fn write_bytes(out: &mut [u8], src: &[u8])
     }
 }
 
+// Writes a head.
+pub fn write_head(width: u16, bits: u64, out: &mut [u8])
+    requires { ⌜ length (now out) ≡ headBytes ⌝ }
+    ensures { λ _. ⌜ now (out .exit) ≡ head width bits ⌝ }
+{
+    let number = width as u64;
+    little_endian::write_number(&mut out[0..2], number);
+    little_endian::write_number(&mut out[2..HEAD_BYTES], bits);
+}
+
 // Writes the stored form of a hash.
 pub fn write_form(width: u16, bits: u64, state: [u32; 32], tail: &[u8], size: usize, out: &mut [u8])
     requires { ⌜ (length (now out) ≡ headBytes + 2 * size) × (size ≤ 128) × (length (now tail) ≡ 128) × (size % 4 ≡ 0) ⌝ }
     ensures { λ _. ⌜ now (out .exit)
-        ≡ littleEndian 2 width ++ littleEndian lengthBytes bits ++ take size (bytesOf state) ++ take size (now (tail .entry)) ⌝ }
+        ≡ head width bits ++ take size (bytesOf state) ++ take size (now (tail .entry)) ⌝ }
 {
-    let number = width as u64;
     let middle = HEAD_BYTES + size;
     let end = middle + size;
-    little_endian::write_number(&mut out[0..2], number);
-    little_endian::write_number(&mut out[2..HEAD_BYTES], bits);
+    write_head(width, bits, &mut out[0..HEAD_BYTES]);
     little_endian::write_words(&mut out[HEAD_BYTES..middle], state);
     write_bytes(&mut out[middle..end], tail);
 }

@@ -34,7 +34,7 @@ use Rattle.hash.proofs.Holding.{legal-width, legal-state, legal-tail, l
 use Rattle.hash.proofs.Feeding.{length-message}
 use Rattle.hash_parts.proofs.Refusing.{passed}
 use Rattle.hash.proofs.Refusing.{Accepted, accepted, written-refused}
-use Rattle.hash.proofs.Digests.{digest-room, digest-length}
+use Rattle.hash.proofs.Digests.{digest-room}
 
 -- Refusals.
 pub take-refusal : (h : Hash) (out : List ℕ) (k r : ℕ) → k ≡ digestBytes (h .width)
@@ -167,8 +167,21 @@ pub front-written : (n : ℕ) (bytes out : List ℕ) → length bytes ≡ n → 
 unfolding written
 front-written n bytes out size = ap (λ (k : ℕ). bytes ++ drop k out) (sub-zero n ∙ sym size)
 
-words-above : (h : Hash) → legal h ≡ true → digestBytes (h .width) ≤ 4 * stateWords (family h)
-words-above h good = digest-room (h .width) (legal-width h good)
+-- A digest written from a state, as many of its first bytes as the width asks.
+pub state-written : (width : ℕ) → isWidth width ≡ true → (words out : List ℕ) → length words ≡ stateWords (familyOf width) → digestBytes width ≤ length out
+    → {k : ℕ} {state bytes : List ℕ} → k ≡ digestBytes width → state ≡ padded 32 words → bytes ≡ take (length (take (k - 0) out)) (bytesOf state)
+    → bytes ++ postOf 0 (k - 0) out ≡ written 0 (take (digestBytes width) (bytesOf words)) out
+state-written width known words out long enough {k} {bytes = bytes} sized stated wrote =
+    let n = digestBytes width in
+    let f = familyOf width in
+    let size : length (take (k - 0) out) ≡ n = omega (arith, length-take (k - 0) out) in
+    let room = digest-room width known in
+    let digest : bytes ≡ take n (bytesOf words) =
+    wrote
+    ∙ (λ i. take (size i) (bytesOf (stated i)))
+    ∙ state-bytes n words (omega (arith, long, room)) (omega (arith, long, words-within f)) in
+    let whole : length (take n (bytesOf words)) ≡ k = omega (arith, length-take n (bytesOf words), length-bytesOf words, long, room) in
+    front-written k bytes out (ap length digest ∙ whole) ∙ ap (λ (b : List ℕ). written 0 b out) digest
 
 pub take-answered : (h : Hash) (out : List ℕ) (r : ℕ) → r ≡ takeRefusal h out → r ≡ 0 → (k : ℕ) → k ≡ digestBytes (h .width)
     → (state′ bytes : List ℕ) (blocks : ℕ)
@@ -183,18 +196,11 @@ unfolding takeAnswer taken digestOf finalOf reached pending message
 take-answered h out r same none k sized state′ bytes blocks stated counted wrote =
     let facts = take-facts h out r same none in
     let zero-refusal = sym same ∙ none in
-    let n = digestBytes (h .width) in
     let f = family h in
-    let size : length (take (k - 0) out) ≡ n = omega (arith, length-take (k - 0) out, facts .1) in
     let before = chain f (take (stateWords f) (h .state)) (message (h .tail) (used h)) (messageBlocks f (used h)) in
-    let words = length-compression f true before (lengthBlock f (h .bits)) in
-    let digest : bytes ≡ digestOf h =
-    wrote
-    ∙ (λ i. take (size i) (bytesOf (stated i)))
-    ∙ state-bytes n (finalOf h) (omega (arith, words, words-above h (facts .0))) (omega (arith, words, words-within f)) in
-    let long = ap length digest ∙ digest-length h (facts .0) ∙ sym sized in (
+    let words = length-compression f true before (lengthBlock f (h .bits)) in (
       rw zero-refusal (λ i. record { hash = h; blocks = counted i; refusal = 0 }),
-      rw zero-refusal (front-written k bytes out long ∙ ap (λ (b : List ℕ). written 0 b out) digest),
+      rw zero-refusal (state-written (h .width) (legal-width h (facts .0)) (finalOf h) out words (facts .1) sized stated wrote),
     )
 
 -- Stored.

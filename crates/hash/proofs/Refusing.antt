@@ -7,7 +7,7 @@ use native.Mathlib.Omega.{arith}
 use borrow.Author.Tests.{leb-true, le-leb, lt-leb}
 use lib.Dec.{leb}
 use lib.ListN.{length, drop}
-use Rattle.hash.specs.Open.{limit, pieceRefusal, written, first}
+use Rattle.hash.specs.Open.{limit, pieceRefusal, written, stored, first}
 pub use Rattle.hash_parts.proofs.Refusing.{passed}
 
 pub chosen : (test : Bool) (x y : ℕ) → test ≡ true → x ≡ cond test x y
@@ -29,7 +29,7 @@ module _ (n : ℕ) (piece : List ℕ) (count : ℕ) where
   unfolding pieceRefusal
   total-within within short = rw (le-leb count (8 * length piece) within, le-leb (n + count) limit short)
 
--- A first refusal hides a second one, and a refusal leaves the buffer that was lent.
+-- A first refusal hides a second one, and a refusal leaves the buffer and the number that were lent.
 pub first-refused : (r s : ℕ) → (r ≡ 0 → ⊥) → first r s ≡ r
 unfolding first
 first-refused zero s some = absurd (some refl)
@@ -47,6 +47,15 @@ written-refused (suc n) bytes out some = refl
 pub written-accepted : (r : ℕ) (bytes out : List ℕ) → r ≡ 0 → written r bytes out ≡ bytes ++ drop (length bytes) out
 unfolding written
 written-accepted r bytes out none = ap (λ n. written n bytes out) none
+
+pub stored-refused : (r new old : ℕ) → (r ≡ 0 → ⊥) → stored r new old ≡ old
+unfolding stored
+stored-refused zero new old some = absurd (some refl)
+stored-refused (suc n) new old some = refl
+
+pub stored-accepted : (r new old : ℕ) → r ≡ 0 → stored r new old ≡ new
+unfolding stored
+stored-accepted r new old none = ap (λ n. stored n new old) none
 
 pub both-passed : (r s : ℕ) → first r s ≡ 0 → (r ≡ 0) × (s ≡ 0)
 unfolding first

@@ -6,8 +6,7 @@ use lib.Dec.{leb}
 use lib.ListN.{length, take, drop}
 use Rattle.simd.specs.Basic.{blockBytes, stateWords, wordsOf, bytesOf}
 use Rattle.bits.specs.Zero.{padded}
-use Rattle.little_endian.specs.Numbers.{littleEndian}
-use Rattle.form.specs.Head.{lengthBytes, headBytes, formWidth, formBits}
+use Rattle.form.specs.Head.{headBytes, head, formWidth, formBits}
 use Rattle.hash.specs.Open.{family, legal, reached, opened}
 use Rattle.hash.specs.declared.Hash.{Hash}
 use Rattle.hash.specs.declared.Opened.{Opened}
@@ -17,7 +16,7 @@ unfoldable pub use Rattle.hash_parts.specs.Form.{restoreRefusal}
 
 unfoldable pub formOf : Hash → List ℕ
 formOf h =
-    littleEndian 2 (h .width) ++ littleEndian lengthBytes (h .bits) ++ bytesOf (reached h) ++ take (blockBytes (family h)) (h .tail)
+    head (h .width) (h .bits) ++ bytesOf (reached h) ++ take (blockBytes (family h)) (h .tail)
 
 unfoldable pub storeRefusal : Hash → List ℕ → ℕ
 storeRefusal h out = cond (legal h) (cond (leb (formBytes (family h)) (length out)) 0 6) 5

@@ -106,6 +106,11 @@ unfoldable pub written : ℕ → List ℕ → List ℕ → List ℕ
 written zero bytes out = bytes ++ drop (length bytes) out
 written (suc r) bytes out = out
 
+-- A number behind a pointer, likewise.
+unfoldable pub stored : ℕ → ℕ → ℕ → ℕ
+stored zero new old = new
+stored (suc r) new old = old
+
 -- The first of two refusals that is no 0.
 unfoldable pub first : ℕ → ℕ → ℕ
 first zero r = r

@@ -13,9 +13,10 @@ use Rattle.simd.specs.Basic.{familyOf, blockBytes, blockBits, stateWords, words
 use Rattle.laws.proofs.Bits.{getD-bitsOf, getD-take-past}
 use Rattle.laws.proofs.LittleEndian.{length-bytesOf, length-wordsOf, words-bytes, bytes-words, sum-lt, wordsOf-fit}
 use Rattle.bits.specs.Zero.{allZero, clear, padded}
-use Rattle.little_endian.specs.Numbers.{littleEndian, number}
-use Rattle.form.specs.Head.{lengthBytes, headBytes, formWidth, formBits}
-use Rattle.little_endian.proofs.Writing.{length-littleEndian, number-written, number-read}
+use Rattle.little_endian.specs.Numbers.{number}
+use Rattle.form.specs.Head.{lengthBytes, headBytes, head, formWidth, formBits}
+use Rattle.little_endian.proofs.Writing.{number-read}
+use Rattle.form.proofs.Forming.{length-head, written-width, written-bits}
 use Rattle.hash.specs.Open.{family, used, reached, legal}
 use Rattle.hash.specs.Form.{formBytes, formOf, formFamily, hashOf, restoreRefusal}
 use Rattle.hash.specs.declared.Hash.{Hash}
@@ -54,31 +55,28 @@ rebuilt width bits form =
       tail = padded 128 (drop (headBytes + blockBytes (familyOf width)) form);
     }
 
--- A form of four parts.
-module _ (a b s t : List ℕ) (z : ℕ) (two : length a ≡ 2) (four : length b ≡ lengthBytes) (block : length s ≡ z) where
-  pub behind-width : drop 2 (a ++ b ++ s ++ t) ≡ b ++ (s ++ t)
-  behind-width = rw (append-assoc (a ++ b) s t, append-assoc a b (s ++ t)) (drop-at a (b ++ (s ++ t)) 2 two)
+-- A form of three parts.
+module _ (a s t : List ℕ) (z : ℕ) (front : length a ≡ headBytes) (block : length s ≡ z) where
+  behind-head : drop headBytes (a ++ s ++ t) ≡ s ++ t
+  behind-head = rw (append-assoc a s t) (drop-at a (s ++ t) headBytes front)
 
-  pub behind-bits : drop headBytes (a ++ b ++ s ++ t) ≡ s ++ t
-  behind-bits = rw (append-assoc (a ++ b) s t) (drop-at (a ++ b) (s ++ t) headBytes (omega (arith, length-append a b)))
+  behind-state : drop (headBytes + z) (a ++ s ++ t) ≡ t
+  behind-state = drop-at (a ++ s) t (headBytes + z) (omega (arith, length-append a s))
 
-  pub behind-state : drop (headBytes + z) (a ++ b ++ s ++ t) ≡ t
-  behind-state = drop-at (a ++ b ++ s) t (headBytes + z) (omega (arith, length-append (a ++ b) s, length-append a b))
-
-  pub four-parts : length (a ++ b ++ s ++ t) ≡ headBytes + z + length t
-  four-parts = omega (arith, length-append (a ++ b ++ s) t, length-append (a ++ b) s, length-append a b)
+  three-parts : length (a ++ s ++ t) ≡ headBytes + z + length t
+  three-parts = omega (arith, length-append (a ++ s) t, length-append a s)
 
 -- Stored and restored.
 module _ (h : Hash) where
   abbrev size : ℕ
   size = blockBytes (family h)
 
-  -- The four parts of its form.
-  abbrev width-part : List ℕ
-  width-part = littleEndian 2 (h .width)
+  -- The three parts of its form.
+  abbrev head-part : List ℕ
+  head-part = head (h .width) (h .bits)
 
-  abbrev bits-part : List ℕ
-  bits-part = littleEndian lengthBytes (h .bits)
+  head-bytes : length head-part ≡ headBytes
+  head-bytes = length-head (h .width) (h .bits)
 
   abbrev state-part : List ℕ
   state-part = bytesOf (reached h)
@@ -96,45 +94,34 @@ module _ (h : Hash) where
     pub form-length : length (formOf h) ≡ formBytes (family h)
     unfolding formOf
     form-length =
-        let parts = four-parts width-part bits-part state-part tail-part size
-        (length-littleEndian 2 (h .width)) (length-littleEndian lengthBytes (h .bits)) block-bytes in
-        omega (arith, parts, tail-bytes)
+        omega (arith, three-parts head-part state-part tail-part size head-bytes block-bytes, tail-bytes)
 
   module _ (v : Value h) (good : legal h ≡ true) where
     abbrev l : Long h
     l = long (v .sized)
 
     form-width : formWidth (formOf h) ≡ h .width
-    unfolding formWidth formOf
+    unfolding formOf
     form-width =
-        rw (
-          append-assoc (width-part ++ bits-part) state-part tail-part,
-          append-assoc width-part bits-part (state-part ++ tail-part),
-        )
-        (number-written 2 (h .width) (bits-part ++ (state-part ++ tail-part)) (v .width-fits))
+        rw (append-assoc head-part state-part tail-part) (written-width (h .width) (h .bits) (state-part ++ tail-part) (v .width-fits))
 
     form-bits : formBits (formOf h) ≡ h .bits
-    unfolding formBits formOf
+    unfolding formOf
     form-bits =
-        rw (behind-width width-part bits-part state-part tail-part size
-        (length-littleEndian 2 (h .width)) (length-littleEndian lengthBytes (h .bits)) (block-bytes l))
-        (number-written lengthBytes (h .bits) (state-part ++ tail-part) (v .bits-fit))
+        rw (append-assoc head-part state-part tail-part) (written-bits (h .width) (h .bits) (state-part ++ tail-part) (v .bits-fit))
 
     form-words : wordsOf (stateWords (family h)) (drop headBytes (formOf h)) ≡ reached h
     unfolding formOf
     form-words =
         rw (
-          behind-bits width-part bits-part state-part tail-part size
-              (length-littleEndian 2 (h .width)) (length-littleEndian lengthBytes (h .bits)) (block-bytes l),
+          behind-head head-part state-part tail-part size head-bytes (block-bytes l),
           ← length-reached h (v .sized .words),
         )
         (words-bytes (reached h) tail-part (reached-fits h (v .word-fits)))
 
     form-tail : drop (headBytes + size) (formOf h) ≡ tail-part
     unfolding formOf
-    form-tail =
-        behind-state width-part bits-part state-part tail-part size
-        (length-littleEndian 2 (h .width)) (length-littleEndian lengthBytes (h .bits)) (block-bytes l)
+    form-tail = behind-state head-part state-part tail-part size head-bytes (block-bytes l)
 
     past-block : allZero (drop size (h .tail)) ≡ true
     past-block = bytes-past (used h) size (h .tail) (v .sized .byte-fits) (legal-tail h good) (block-within (family h) (h .bits))

@@ -4,11 +4,14 @@
 ghost use mathlib.Core.Bool.{cond};
 ghost use mathlib.Core.Path.{_≡_};
 ghost use lib.ListN.{length};
+ghost use Rattle.simd.specs.Basic.{familyOf};
 ghost use Rattle.simd.specs.Message.{message as messageOf};
-ghost use Rattle.simd.specs.Hash.{digest};
+ghost use Rattle.simd.specs.Hash.{digest, compressions};
 ghost use Rattle.hash.specs.Open.{takeAnswer, digestOf, written};
 ghost use Rattle.hash.specs.Form.{formOf, restoreAnswer};
 ghost use Rattle.digest.specs.Call.{digestRefusal};
+ghost use Rattle.checkpoints.specs.Index.{indexOf, correctedIndex, correctedDigest, correctedCompressions};
+ghost use Rattle.checkpoints.specs.Calls.{indexRefusal, reindexRefusal};
 ghost use Rattle.hmac_key.specs.Hmac.{tag as tagOfMessage};
 ghost use Rattle.hmac.specs.Keyed.{takeAnswer as takeAnswerKeyed, checkAnswer, tagOf};
 ghost use Rattle.hmac.specs.Form.{keyedForm, restoreAnswer as restoreKeyed};
@@ -63,6 +66,64 @@ pub extern "C" fn simd_hash(width: u16, message: &[u8], bits: u64, out: &mut [u8
         (digest width (messageOf (now (message .entry)) bits)) (now (out .entry)) ⌝ }
 {
     digest::digest(width, message, bits as usize, out)
+}
+
+#[no_mangle]
+pub extern "C" fn simd_index(
+    width: u16,
+    message: &[u8],
+    bits: u64,
+    index: &mut [u8],
+    out: &mut [u8],
+    blocks: &mut u64,
+) -> u8
+    ensures { λ r. ⌜ r ≡ indexRefusal width (now (message .entry)) bits (length (now (index .entry))) (length (now (out .entry))) ⌝ }
+    ensures { λ r. ⌜ now (index .exit)
+        ≡ written (indexRefusal width (now (message .entry)) bits (length (now (index .entry))) (length (now (out .entry))))
+        (indexOf width (messageOf (now (message .entry)) bits)) (now (index .entry)) ⌝ }
+    ensures { λ r. ⌜ now (out .exit)
+        ≡ written (indexRefusal width (now (message .entry)) bits (length (now (index .entry))) (length (now (out .entry))))
+        (digest width (messageOf (now (message .entry)) bits)) (now (out .entry)) ⌝ }
+    ensures { λ r. ⌜ now (blocks .exit)
+        ≡ stored (indexRefusal width (now (message .entry)) bits (length (now (index .entry))) (length (now (out .entry))))
+        (compressions (familyOf width) bits) (now (blocks .entry)) ⌝ }
+{
+    index::index(width, message, bits as usize, index, out, blocks)
+}
+
+#[no_mangle]
+pub extern "C" fn simd_reindex(
+    width: u16,
+    message: &[u8],
+    bits: u64,
+    old: &[u8],
+    block: u64,
+    index: &mut [u8],
+    out: &mut [u8],
+    blocks: &mut u64,
+) -> u8
+    ensures { λ r. ⌜ r
+        ≡ reindexRefusal width (now (message .entry)) bits (now (old .entry)) block (length (now (index .entry))) (length (now (out .entry))) ⌝ }
+    ensures { λ r. ⌜ now (index .exit)
+        ≡ written (reindexRefusal width (now (message .entry)) bits (now (old .entry)) block (length (now (index .entry))) (length (now (out .entry))))
+        (correctedIndex width (now (old .entry)) (messageOf (now (message .entry)) bits) block) (now (index .entry)) ⌝ }
+    ensures { λ r. ⌜ now (out .exit)
+        ≡ written (reindexRefusal width (now (message .entry)) bits (now (old .entry)) block (length (now (index .entry))) (length (now (out .entry))))
+        (correctedDigest width (now (old .entry)) (messageOf (now (message .entry)) bits) block) (now (out .entry)) ⌝ }
+    ensures { λ r. ⌜ now (blocks .exit)
+        ≡ stored (reindexRefusal width (now (message .entry)) bits (now (old .entry)) block (length (now (index .entry))) (length (now (out .entry))))
+        (correctedCompressions (familyOf width) bits block) (now (blocks .entry)) ⌝ }
+{
+    index::reindex(
+        width,
+        message,
+        bits as usize,
+        old,
+        block,
+        index,
+        out,
+        blocks,
+    )
 }
 
 #[no_mangle]

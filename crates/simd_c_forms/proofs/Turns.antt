@@ -5,9 +5,8 @@ use mathlib.Core.List.{List}
 use mathlib.Core.Path.{_≡_, sym, ap, _∙_}
 use Prim.Native.Nat.{ℕ}
 use Rattle.hash.specs.Open.{first, written}
-use Rattle.hash.proofs.Refusing.{first-refused, first-accepted, written-refused}
+use Rattle.hash.proofs.Refusing.{first-refused, first-accepted, written-refused, stored-refused, stored-accepted}
 use Rattle.simd_c_forms.specs.Calls.{stored}
-use Rattle.simd_c_forms.proofs.Laws.{stored-refused, stored-accepted}
 
 -- A call that answers n, no 0, leaves bytes and number as they were; one that answers 0 puts the new number.
 module _ {call n : ℕ} (e : n ≡ call) where

@@ -1,15 +1,11 @@
 -- What the calls that hold a stored form answer, and what they leave behind in what they were lent.
 use mathlib.Core.List.{List}
-use Prim.Native.Nat.{ℕ, zero, suc}
+use Prim.Native.Nat.{ℕ}
 use Rattle.hash.specs.Open.{first, openAnswer, feedAnswer, takeAnswer}
 use Rattle.hash.specs.Form.{storeAnswer, restoreAnswer}
 use Rattle.hash.specs.declared.Hash.{Hash}
 use Rattle.hash.specs.declared.Fed.{Fed}
-
--- A number behind a pointer: a refusal leaves it as it was.
-unfoldable pub stored : ℕ → ℕ → ℕ → ℕ
-stored zero new old = new
-stored (suc n) new old = old
+unfoldable pub use Rattle.hash.specs.Open.{stored}
 
 -- simd_open: the empty hash, stored.
 unfoldable pub openedHash : ℕ → Hash

@@ -15,7 +15,7 @@ use Rattle.hash.specs.Open.{limit, first, advanced, holding, fullBlocks, writte
 use Rattle.hash.specs.Form.{formBytes}
 use Rattle.hash.proofs.Holding.{Value}
 use Rattle.hash.proofs.Feeding.{Whole, length-message, bits-message}
-use Rattle.hash.proofs.Refusing.{written-accepted}
+use Rattle.hash.proofs.Refusing.{written-accepted, stored-accepted}
 use Rattle.hash_theorems.proofs.Held.{long}
 use Rattle.hash_theorems.proofs.Advanced.{advanced-bits}
 use Rattle.hash_theorems.proofs.Cutting.{Piece, joined, Wholes, bits-joined, Answer, inTurn, Feeding, all-joined}
@@ -30,7 +30,6 @@ use Rattle.hmac_theorems.proofs.Tags.{further, further-legal, further-none, fur
 use Rattle.hmac_theorems.proofs.Tags.{open-known, pad-bits, start-bits, start-family, start-legal, tagging}
 use Rattle.hmac_theorems.proofs.Forms.{Values, keyed-length, stored-restored}
 use Rattle.simd_c_forms.specs.Calls.{stored}
-use Rattle.simd_c_forms.proofs.Laws.{stored-accepted}
 use Rattle.simd_c_theorems.proofs.Opening.{opened-value, opened-bits}
 use Rattle.simd_c_theorems.proofs.Theorems.{advanced-value, stored-over}
 use Rattle.simd_c_hmac.specs.Calls.{openedHmac, openCall, fedFrom, feedCall, takeCall, checkCall, yes}

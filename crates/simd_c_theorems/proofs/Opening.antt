@@ -18,7 +18,7 @@ use Rattle.hash_theorems.proofs.Held.{held-legal}
 use Rattle.hash.proofs.Feeding.{at-widths, start-length}
 use Rattle.hash_theorems.proofs.Advanced.{held-sized}
 use Rattle.hash_theorems.proofs.Theorems.{open-known}
-use Rattle.simd_c_theorems.proofs.Fitting.{start-fits}
+use Rattle.hash.proofs.Fitting.{start-fits}
 
 none-used : (f : Family) → 0 ≡ 0 % blockBits f
 none-used small = refl

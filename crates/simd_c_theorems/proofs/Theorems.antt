@@ -25,13 +25,12 @@ use Rattle.hash.proofs.Feeding.{Whole, fed-whole, length-message, bits-message}
 use Rattle.hash_theorems.proofs.Held.{long}
 use Rattle.hash_theorems.proofs.Advanced.{advanced-sized, advanced-bits, advanced-legal, advanced-append, advanced-none, blocks-append, none-full}
 use Rattle.hash_theorems.proofs.Storing.{reached-fits, form-length}
-use Rattle.hash.proofs.Refusing.{written-accepted}
+use Rattle.hash.proofs.Refusing.{written-accepted, stored-accepted}
 use Rattle.hash_theorems.proofs.Cutting.{Piece, joined, Wholes, bits-joined, Answer, inTurn, Feeding, all-joined}
 use Rattle.hash_theorems.proofs.Theorems.{open-known, feed-all, cutting, stored-restored}
 use Rattle.simd_c_forms.specs.Calls.{stored, openedHash, openCall, fedFrom, feedCall, takeCall}
-use Rattle.simd_c_forms.proofs.Laws.{stored-accepted}
 use Rattle.simd_c_forms.proofs.Answers.{answered-refusal}
-use Rattle.simd_c_theorems.proofs.Fitting.{chain-fits}
+use Rattle.hash.proofs.Fitting.{chain-fits}
 use Rattle.simd_c_theorems.proofs.Opening.{opened-legal, opened-value, opened-bits}
 
 -- The form that simd_open leaves, and the form and the sum of the blocks that simd_feed leaves, called for one piece after the other. The

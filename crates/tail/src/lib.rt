@@ -25,6 +25,17 @@ pub fn digest_bytes(width: u16) -> usize
     (width / 8) as usize
 }
 
+// The full blocks of so many bits.
+pub fn full_blocks(width: u16, bits: usize) -> usize
+    ensures { λ r. ⌜ r ≡ bits / blockBits (familyOf width) ⌝ }
+{
+    if width <= 256 {
+        bits / 512
+    } else {
+        bits / 1024
+    }
+}
+
 // The bits in the tail of a hash of so many bits.
 pub fn used_bits(width: u16, bits: u64) -> usize
     ensures { λ r. ⌜ r ≡ bits % blockBits (familyOf width) ⌝ }

@@ -1,7 +1,7 @@
 -- A block has 512 bits up to width 256, and 1024 above.
 use borrow.Author.Tests.{le-leb, lt-leb}
-use Rattle.advance.proofs.full_blocks.Statement.{statement}
-use Rattle.advance.proofs.full_blocks.Tie as tie
+use Rattle.tail.proofs.full_blocks.Statement.{statement}
+use Rattle.tail.proofs.full_blocks.Tie as tie
 
 returns : tie.Need-returns
 returns c = rw (le-leb (c .before .args .width) 256 (c .if1 .taken))

@@ -1,0 +1,2 @@
+-- Computed cases; the definitions stand in the crate `checkpoints`.
+pub mod Cases

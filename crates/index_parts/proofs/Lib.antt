@@ -1,0 +1,3 @@
+pub mod Sizes
+pub mod Refusals
+pub mod Starting
