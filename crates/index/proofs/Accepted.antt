@@ -1,17 +1,33 @@
--- What holds of a call that is not refused.
+-- What holds of a call that is not refused, and what each kind of call leaves in what it was lent.
 use mathlib.Core.Bool.{true, _&&_}
 use mathlib.Core.List.{List}
-use mathlib.Core.Path.{_≡_, sym, _∙_}
+use mathlib.Core.Path.{_≡_, sym, ap, _∙_}
 use Prim.Native.Nat.{ℕ, _≤_}
 use borrow.Author.Tests.{leb-true}
 use lib.Dec.{leb}
 use Rattle.simd.specs.Basic.{familyOf, isWidth, digestBytes}
 use Rattle.simd.specs.Message.{messageBlocks}
 use Rattle.bits.proofs.Zeros.{and-left, and-right}
-use Rattle.hash.specs.Open.{pieceRefusal}
+use Rattle.hash.specs.Open.{pieceRefusal, written, stored}
+use Rattle.hash.proofs.Refusing.{written-refused, stored-refused, stored-accepted}
 use Rattle.hash.proofs.Refusing.{passed, both-passed, Accepted as MessageAccepted, accepted as message-accepted}
 use Rattle.checkpoints.specs.Index.{indexBytes}
 use Rattle.checkpoints.specs.Calls.{messageRefusal, roomRefusal, indexRefusal, fits, fitRefusal, reindexRefusal}
+
+-- Refused, all stays; else both outputs and the number are written.
+pub nothing-written : {r told : ℕ} → r ≡ told → (r ≡ 0 → ⊥) → (x index y out : List ℕ) (c blocks : ℕ)
+    → (r ≡ told) × ((index ≡ written told x index) × ((out ≡ written told y out) × (blocks ≡ stored told c blocks)))
+nothing-written {told = told} same some x index y out c blocks =
+    let refused : told ≡ 0 → ⊥ = λ e. some (same ∙ e) in
+    (same, (sym (written-refused told x index refused), (sym (written-refused told y out refused), sym (stored-refused told c blocks refused))))
+
+pub all-written : {told : ℕ} → 0 ≡ told → (x index y out : List ℕ) (c blocks : ℕ) {index′ out′ : List ℕ} {blocks′ : ℕ}
+    → index′ ≡ written 0 x index → out′ ≡ written 0 y out → blocks′ ≡ c
+    → (0 ≡ told) × ((index′ ≡ written told x index) × ((out′ ≡ written told y out) × (blocks′ ≡ stored told c blocks)))
+all-written {told} none x index y out c blocks one two three =
+    let index-told = one ∙ ap (λ (r : ℕ). written r x index) none in
+    let out-told = two ∙ ap (λ (r : ℕ). written r y out) none in
+    (none, (index-told, (out-told, three ∙ sym (stored-accepted told c blocks (sym none)))))
 
 pub record Accepted (width : ℕ) (bytes : List ℕ) (count indexRoom room : ℕ) : Type 0 where
   pub known : isWidth width ≡ true

@@ -1,26 +1,23 @@
 -- What the two outputs hold: an index is written in two parts, what stands before the state that the run starts from and the states from there on.
 use mathlib.Core.Bool.{Bool, true, false, cond}
-use mathlib.Core.List.{List, [], _++_}
+use mathlib.Core.List.{List, [], _++_, append-nil}
 use mathlib.Core.Path.{_≡_, refl, sym, ap, _∙_}
 use Prim.Native.Nat.{ℕ, _+_, _*_, _-_, _≤_}
-use native.Mathlib.Nat.{mul-zero, sub-zero}
 use native.Mathlib.Omega.{arith}
 use borrow.Rule.Slice.PartMut.{putMid, drop-put}
 use lib.Dec.{eqb}
 use lib.ListN.{length, take, drop, length-append, take-append-drop}
 use lib.Seq.{drop-drop}
-use Rattle.simd.specs.Basic.{Family, familyOf, isWidth, blockBytes, blockBits, stateWords, digestBytes, bytesOf, wordsOf}
+use Rattle.simd.specs.Basic.{Family, familyOf, isWidth, blockBytes, stateWords, digestBytes, bytesOf, wordsOf}
 use Rattle.simd.specs.Constants.{start}
-use Rattle.simd.specs.Message.{messageBlocks, lengthBlock}
-use Rattle.simd.specs.Steps.{compression}
-use Rattle.simd.specs.Hash.{chain, final, finalState, digest}
+use Rattle.simd.specs.Hash.{chain, finalState, digest}
 use Rattle.form.specs.Head.{headBytes, head}
 use Rattle.laws.proofs.LittleEndian.{length-wordsOf}
 use Rattle.bits.proofs.Parts.{put-front, put-length}
 use Rattle.hash.specs.Open.{written}
 use Rattle.hash.proofs.Feeding.{start-length}
-use Rattle.checkpoints.proofs.States.{length-states}
 use Rattle.checkpoints.specs.Index.{kept, states, statesFrom, finalFrom, indexOf, keptState, startsAt, startState, correctedIndex, correctedDigest}
+use Rattle.checkpoints.proofs.States.{length-states, final-from, index-cut}
 
 -- Two parts written one behind the other to the front of a buffer.
 pub parts-written : (a e : ℕ) (out x y : List ℕ) → length x ≡ a → length y ≡ e - a → a ≤ e → e ≤ length out
@@ -46,32 +43,21 @@ pub length-from : (f : Family) (s m : List ℕ) (n i : ℕ) → length s ≡ sta
 unfolding statesFrom
 length-from f s m n i words size = length-states f s _ words (kept f (length m) - i) ∙ ap (λ (n : ℕ). blockBytes f * (kept f n - i)) size
 
--- A run from the first state on is a run of the whole message.
-module _ (f : Family) (s m : List ℕ) where
-  whole : drop (blockBits f * (16 * 0)) m ≡ m
-  whole = ap (λ (k : ℕ). drop k m) (mul-zero (blockBits f))
-
-  states-whole : statesFrom f s m 0 ≡ states f s m (kept f (length m))
-  unfolding statesFrom
-  states-whole = λ i. states f s (whole i) (sub-zero (kept f (length m)) i)
-
-  final-whole : finalFrom f s m 0 ≡ final f s m
-  unfolding finalFrom final
-  final-whole = λ i. compression f true (chain f s (whole i) (sub-zero (messageBlocks f (length m)) i)) (lengthBlock f (length m))
-
--- What a fresh run has written, with `s` the width's starting state.
+-- What a fresh run has written, with `s` the width's starting state: a run from kept state 0 on is one of the whole message.
 module _ (width : ℕ) (m : List ℕ) {s : List ℕ} (begun : s ≡ start width) where
-  pub fresh-index : {n : ℕ} {x y : List ℕ} → length m ≡ n → x ≡ head width n → y ≡ statesFrom (familyOf width) s m 0 → x ++ y ≡ indexOf width m
-  unfolding indexOf
-  fresh-index size one two =
+  pub run-index : {n : ℕ} {x y : List ℕ} → length m ≡ n → x ≡ head width n → y ≡ statesFrom (familyOf width) s m 0 → x ++ y ≡ indexOf width m
+  unfolding states chain
+  run-index size one two =
       let f = familyOf width in
-      λ i. (one ∙ ap (head width) (sym size)) i ++ (two ∙ ap (λ (s : List ℕ). statesFrom f s m 0) begun ∙ states-whole f (start width) m) i
+      (λ i. (one ∙ ap (head width) (sym size) ∙ sym (append-nil (head width (length m)))) i ++ (two ∙ ap (λ (s : List ℕ). statesFrom f s m 0) begun) i)
+      ∙ sym (index-cut width m 0 (omega arith))
 
-  pub fresh-digest : take (digestBytes width) (bytesOf (finalFrom (familyOf width) s m 0)) ≡ digest width m
-  unfolding digest finalState
-  fresh-digest =
+  pub run-digest : take (digestBytes width) (bytesOf (finalFrom (familyOf width) s m 0)) ≡ digest width m
+  unfolding digest finalState chain
+  run-digest =
       let f = familyOf width in
-      ap (λ (t : List ℕ). take (digestBytes width) (bytesOf t)) (ap (λ (s : List ℕ). finalFrom f s m 0) begun ∙ final-whole f (start width) m)
+      ap (λ (t : List ℕ). take (digestBytes width) (bytesOf t))
+      (ap (λ (s : List ℕ). finalFrom f s m 0) begun ∙ final-from f (start width) m 0 (omega arith))
 
 -- The state that a correction starts from has the family's words.
 either : (t : Bool) (x y : List ℕ) {k : ℕ} → length x ≡ k → length y ≡ k → length (cond t x y) ≡ k

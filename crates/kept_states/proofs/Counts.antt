@@ -11,6 +11,10 @@ pub more-bytes : (f : Family) (a b : ℕ) → a ≤ b → blockBytes f * a ≤ b
 more-bytes small a b below = omega arith
 more-bytes large a b below = omega arith
 
+pub less-bytes : (f : Family) (a b : ℕ) → blockBytes f * a - blockBytes f * b ≡ blockBytes f * (a - b)
+less-bytes small a b = omega arith
+less-bytes large a b = omega arith
+
 pub whole-bytes : (f : Family) (n : ℕ) → blockBytes f * n / blockBytes f ≡ n
 whole-bytes small n = omega arith
 whole-bytes large n = omega arith
@@ -57,8 +61,7 @@ module _ (n i : ℕ) where
   bits-left large = omega arith
 
   pub bytes-behind : (f : Family) → blockBytes f * (n / blockBits f) - blockBytes f * (16 * i) ≡ blockBytes f * (n / blockBits f - 16 * i)
-  bytes-behind small = omega arith
-  bytes-behind large = omega arith
+  bytes-behind f = less-bytes f (n / blockBits f) (16 * i)
 
   pub kept-behind : (f : Family) → (n / blockBits f - 16 * i + 15) / 16 ≡ kept f n - i
   unfolding kept

@@ -10,7 +10,7 @@ use lib.ListN.{length, take}
 use Rattle.simd.specs.Basic.{familyOf, blockBytes, stateWords}
 use Rattle.simd.specs.Constants.{start as starting}
 use Rattle.simd.specs.Message.{message}
-use Rattle.simd.specs.Hash.{digest, compressions}
+use Rattle.simd.specs.Hash.{compressions}
 use Rattle.bits.proofs.Parts.{put-length}
 use Rattle.bits.proofs.Zeros.{take-padded}
 use Rattle.form.specs.Head.{headBytes}
@@ -19,11 +19,9 @@ use Rattle.tail.proofs.Absorbing.{refit}
 use Rattle.tail.proofs.Sizes.{words-within}
 use Rattle.hash.specs.Open.{written}
 use Rattle.hash.proofs.Feeding.{length-message, start-length}
-use Rattle.hash.proofs.Refusing.{written-refused, stored-refused, stored-accepted}
-use Rattle.checkpoints.specs.Index.{kept, indexOf, statesFrom}
-use Rattle.checkpoints.specs.Calls.{indexRefusal}
-use Rattle.index.proofs.Accepted.{Accepted, accepted}
-use Rattle.index.proofs.Outputs.{parts-written, length-from, fresh-index, fresh-digest}
+use Rattle.checkpoints.specs.Index.{kept, statesFrom}
+use Rattle.index.proofs.Accepted.{nothing-written, all-written, Accepted, accepted}
+use Rattle.index.proofs.Outputs.{parts-written, length-from, run-index, run-digest}
 use Rattle.index.proofs.index.Statement.{statement}
 use Rattle.index.proofs.index.Tie as tie
 
@@ -41,16 +39,8 @@ good c =
 
 returns : tie.Need-returns
 returns c =
-    let r = c .before .index-refusal in
     let a = c .before .before .before .before .before .args in
-    let told = indexRefusal (a .width) (a .message .now) (a .count) (length (a .index .now)) (length (a .out .now)) in
-    let some : told ≡ 0 → ⊥ = λ e. c .if1 .taken (r .ensures ∙ e) in (
-      r .ensures,
-      (
-        sym (written-refused told _ (a .index .now) some),
-        (sym (written-refused told _ (a .out .now) some), sym (stored-refused told _ (a .blocks .now) some)),
-      ),
-    )
+    nothing-written (c .before .index-refusal .ensures) (c .if1 .taken) _ (a .index .now) _ (a .out .now) _ (a .blocks .now)
 
 part-write-head-end : tie.Need-part-write-head-end
 part-write-head-end c = omega (arith, good (c .before .before) .index-room)
@@ -126,16 +116,13 @@ returns-2 c =
     let m = message (b .message .now) (b .count) in
     let whole = length-message (b .message .now) (b .count) (g .whole .within) in
     let states = d .finish .last .1 .1 .1 .1 .1 .0 in
-    let count = compressions (familyOf (b .width)) (b .count) in
     let index =
     parts-written headBytes (end h) (b .index .now) (headed h) states (head-long h) (states-long h (d .finish .ensures .1 .0))
     (omega (arith, h .before .before .index-bytes .ensures)) (omega (arith, room h, index-long h))
-    ∙ ap (λ (l : List ℕ). written 0 l (b .index .now)) (fresh-index (b .width) m (begun h) whole (h .write-head .ensures) (d .finish .ensures .1 .0))
-    ∙ ap (λ (r : ℕ). written r (indexOf (b .width) m) (b .index .now)) none in
-    let out =
-    d .finish .ensures .1 .1 ∙ ap (λ (l : List ℕ). written 0 l (b .out .now)) (fresh-digest (b .width) m (begun h))
-    ∙ ap (λ (r : ℕ). written r (digest (b .width) m) (b .out .now)) none in
-    (none, (index, (out, d .finish .ensures .0 ∙ sub-zero count ∙ sym (stored-accepted _ count (b .blocks .now) (sym none)))))
+    ∙ ap (λ (l : List ℕ). written 0 l (b .index .now)) (run-index (b .width) m (begun h) whole (h .write-head .ensures) (d .finish .ensures .1 .0)) in
+    let out = d .finish .ensures .1 .1 ∙ ap (λ (l : List ℕ). written 0 l (b .out .now)) (run-digest (b .width) m (begun h)) in
+    all-written none _ (b .index .now) _ (b .out .now) _ (b .blocks .now) index out
+    (d .finish .ensures .0 ∙ sub-zero (compressions (familyOf (b .width)) (b .count)))
 
 pub index-spec : {M : Type 1} → statement M
 index-spec =

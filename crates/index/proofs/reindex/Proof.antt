@@ -16,11 +16,10 @@ use Rattle.tail.proofs.Absorbing.{refit}
 use Rattle.tail.proofs.Sizes.{words-within}
 use Rattle.hash.specs.Open.{written}
 use Rattle.hash.proofs.Feeding.{length-message}
-use Rattle.hash.proofs.Refusing.{written-refused, stored-refused, stored-accepted}
-use Rattle.checkpoints.specs.Index.{kept, startState, statesFrom, correctedIndex, correctedDigest, correctedCompressions}
-use Rattle.checkpoints.specs.Calls.{reindexRefusal, fits}
+use Rattle.checkpoints.specs.Index.{kept, startState, statesFrom}
+use Rattle.checkpoints.specs.Calls.{fits}
 use Rattle.checkpoints.proofs.Heads.{fit}
-use Rattle.index.proofs.Accepted.{Accepted, corrects}
+use Rattle.index.proofs.Accepted.{nothing-written, all-written, Accepted, corrects}
 use Rattle.index.proofs.Numbers.{counted, skipped-full, states-before, states-behind}
 use Rattle.index.proofs.Outputs.{parts-written, length-from, start-words, corrected-index, corrected-digest}
 use Rattle.index.proofs.reindex.Statement.{statement}
@@ -28,16 +27,8 @@ use Rattle.index.proofs.reindex.Tie as tie
 
 returns : tie.Need-returns
 returns c =
-    let r = c .before .reindex-refusal in
     let a = c .before .before .before .before .before .before .args in
-    let told = reindexRefusal (a .width) (a .message .now) (a .count) (a .old .now) (a .block) (length (a .index .now)) (length (a .out .now)) in
-    let some : told ≡ 0 → ⊥ = λ e. c .if1 .taken (r .ensures ∙ e) in (
-      r .ensures,
-      (
-        sym (written-refused told _ (a .index .now) some),
-        (sym (written-refused told _ (a .out .now) some), sym (stored-refused told _ (a .blocks .now) some)),
-      ),
-    )
+    nothing-written (c .before .reindex-refusal .ensures) (c .if1 .taken) _ (a .index .now) _ (a .out .now) _ (a .blocks .now)
 
 -- The place where the call is accepted, from the one where sizes are known; and the function's start.
 abbrev start : tie.Else1 → tie.Start
@@ -186,18 +177,16 @@ returns-2 c =
     let whole = length-message (a .message .now) (a .count) (good p .0 .whole .within) in
     let placed = d .before .before .starts-at .ensures in
     let states = r .finish .last .1 .1 .1 .1 .1 .0 in
-    let count = correctedCompressions (f d) (a .count) (a .block) in
     let index =
     parts-written (middle w) (end w) (a .index .now) (carried w) states (carried-long w) (states-long w (r .finish .ensures .1 .0)) (order w)
     (omega (arith, room w, index-long w))
     ∙ ap (λ (l : List ℕ). written 0 l (a .index .now))
-    (corrected-index (a .width) (a .old .now) m (a .block) whole placed (begun d) (d .block-bytes .ensures) (carried-right w) (r .finish .ensures .1 .0))
-    ∙ ap (λ (n : ℕ). written n (correctedIndex (a .width) (a .old .now) m (a .block)) (a .index .now)) none in
+    (corrected-index (a .width) (a .old .now) m (a .block) whole placed (begun d) (d .block-bytes .ensures) (carried-right w) (r .finish .ensures .1 .0)) in
     let out =
     r .finish .ensures .1 .1
-    ∙ ap (λ (l : List ℕ). written 0 l (a .out .now)) (corrected-digest (a .width) (a .old .now) m (a .block) whole placed (begun d))
-    ∙ ap (λ (n : ℕ). written n (correctedDigest (a .width) (a .old .now) m (a .block)) (a .out .now)) none in
-    (none, (index, (out, counted (f d) (a .count) (a .block) placed (r .finish .ensures .0) ∙ sym (stored-accepted _ count (a .blocks .now) (sym none)))))
+    ∙ ap (λ (l : List ℕ). written 0 l (a .out .now)) (corrected-digest (a .width) (a .old .now) m (a .block) whole placed (begun d)) in
+    all-written none _ (a .index .now) _ (a .out .now) _ (a .blocks .now) index out
+    (counted (f d) (a .count) (a .block) placed (r .finish .ensures .0))
 
 pub reindex-spec : {M : Type 1} → statement M
 reindex-spec =
