@@ -24,6 +24,10 @@
      piece of one, and PART of a tape.  In a byte the first bit is the highest.
      What is past the count is ignored, in the last byte used and in the bytes
      behind it: it may be anything, and no answer depends on it.
+     A message has at most SIMD_BITS_MAX bits, 2^64 - 1, and no count can be above
+     that.  So SIMD_REFUSED_TOTAL is met by a piece after earlier ones, by a key, and
+     by a message under a key, which counts with a block for the key; a message given
+     whole and without a key never meets it, and has it listed for the order alone.
 
    ANSWERS
      Each call returns 0, or the number of the refusal.  Where several
@@ -107,6 +111,45 @@
            for (int k = 0; k < SIMD_DIGEST(width); k++)
                printf("%02x", digest[k]);
            putchar('\n');
+           return 0;
+       }
+
+     restore.c: a hash that was stored while forms had 4 length bytes goes on.  The
+     old form, here of width 256 and 24 bits, with the tail "abc", is restored into
+     one of today's size before it is fed; to take its digest it could stay as it is.
+
+       #include <stdio.h>
+       #include <string.h>
+       #include "simd.h"
+
+       static const uint8_t OLD[SIMD_OLD_FORM(256)] =
+           "\x00\x01" "\x18\x00\x00\x00"
+           "\x83\x79\x56\x4d\xa9\x0b\x19\x07\x7b\x57\x74\x84\xe9\x26\xd7\x39"
+           "\x25\xd9\xf3\xaa\x03\x0b\xe2\x3e\x51\xe7\xd5\xaf\xd3\x06\x60\xc9"
+           "\x14\xba\xc2\xc2\xb4\xbc\xb3\x49\x46\xaf\x7c\xf6\xc9\x26\x86\x66"
+           "\xd2\xa8\xea\xe2\x33\x78\xf4\x1f\xa5\x61\xc6\xd0\xe1\x3d\x69\x55"
+           "abc";
+
+       int main(void)
+       {
+           const uint8_t message[6] = {'a', 'b', 'c', 'd', 'e', 'f'};
+           uint8_t form[SIMD_FORM(256)], digest[SIMD_DIGEST(256)], whole[SIMD_DIGEST(256)];
+           uint64_t blocks;
+           uint8_t refusal = simd_restore(OLD, sizeof OLD, form, sizeof form);
+           if (refusal == SIMD_ACCEPTED)
+               refusal = simd_feed(form, sizeof form, message + 3, 3, 24, &blocks);
+           if (refusal == SIMD_ACCEPTED)
+               refusal = simd_take(form, sizeof form, digest, sizeof digest, &blocks);
+           if (refusal == SIMD_ACCEPTED)
+               refusal = simd_hash(256, message, sizeof message, 8 * sizeof message,
+                                   whole, sizeof whole);
+           if (refusal != SIMD_ACCEPTED) {
+               fprintf(stderr, "refused %d: %s\n", refusal, simd_refusal_text(refusal));
+               return 1;
+           }
+           for (int k = 0; k < SIMD_DIGEST(256); k++)
+               printf("%02x", digest[k]);
+           printf(" %s\n", memcmp(digest, whole, sizeof whole) == 0 ? "same" : "other");
            return 0;
        }
 
@@ -320,11 +363,15 @@ extern "C" {
 
 #define SIMD_BLOCK_SMALL 64     /* a block, and a state, of the small family */
 #define SIMD_BLOCK_LARGE 128    /* and of the large family */
-#define SIMD_HEAD 6             /* what stored forms and indexes begin with: width, bit length */
-#define SIMD_FORM_SMALL 134     /* a stored form: head, state, block */
-#define SIMD_FORM_LARGE 262
-#define SIMD_HMAC_FORM_SMALL 268    /* a keyed form: two stored forms */
-#define SIMD_HMAC_FORM_LARGE 524
+#define SIMD_HEAD 10            /* what stored forms and indexes begin with: width, bit length */
+#define SIMD_FORM_SMALL 138     /* a stored form: head, state, block */
+#define SIMD_FORM_LARGE 266
+#define SIMD_OLD_FORM_SMALL 134     /* an old stored form, with 4 length bytes in place of 8 */
+#define SIMD_OLD_FORM_LARGE 262
+#define SIMD_HMAC_FORM_SMALL 276    /* a keyed form: two stored forms */
+#define SIMD_HMAC_FORM_LARGE 532
+#define SIMD_OLD_HMAC_FORM_SMALL 268    /* an old keyed form: two old stored forms */
+#define SIMD_OLD_HMAC_FORM_LARGE 524
 #define SIMD_WORDS_SMALL 128    /* an expanded block, in words of 32 bits */
 #define SIMD_WORDS_LARGE 256
 #define SIMD_DIGEST_MAX 64      /* the longest digest */
@@ -336,7 +383,10 @@ extern "C" {
 /* The same for one of the four widths. */
 #define SIMD_BLOCK(width) ((width) <= 256 ? SIMD_BLOCK_SMALL : SIMD_BLOCK_LARGE)
 #define SIMD_FORM(width) ((width) <= 256 ? SIMD_FORM_SMALL : SIMD_FORM_LARGE)
+#define SIMD_OLD_FORM(width) ((width) <= 256 ? SIMD_OLD_FORM_SMALL : SIMD_OLD_FORM_LARGE)
 #define SIMD_HMAC_FORM(width) ((width) <= 256 ? SIMD_HMAC_FORM_SMALL : SIMD_HMAC_FORM_LARGE)
+#define SIMD_OLD_HMAC_FORM(width) \
+    ((width) <= 256 ? SIMD_OLD_HMAC_FORM_SMALL : SIMD_OLD_HMAC_FORM_LARGE)
 #define SIMD_WORDS(width) ((width) <= 256 ? SIMD_WORDS_SMALL : SIMD_WORDS_LARGE)
 #define SIMD_DIGEST(width) ((width) / 8)
 #define SIMD_ENTRY(width) ((width) <= 256 ? SIMD_LINE : 2 * SIMD_LINE)
@@ -354,7 +404,7 @@ extern "C" {
 
 /* The most bits of a message; of a keyed hash, of its key, and of its message with
    one block for the key. */
-#define SIMD_BITS_MAX UINT64_C(4294967295)
+#define SIMD_BITS_MAX UINT64_C(18446744073709551615)
 
 /* The greatest number of an entry of a page. */
 #define SIMD_NUMBER_MAX UINT64_C(999999)
@@ -364,14 +414,15 @@ extern "C" {
    what the machine code can need at all; the library's tests do both again
    (tests/c/stack.c, tests/c/frames.py).  Where memcpy and memset are bound only
    when they are first called, the loader's stack for that comes on top. */
-#define SIMD_STACK_OPEN 1536
+#define SIMD_STACK_OPEN 768
 #define SIMD_STACK_FEED 9216
 #define SIMD_STACK_TAKE 8192
+#define SIMD_STACK_RESTORE 832
 #define SIMD_STACK_HASH 6656
 #define SIMD_STACK_HMAC_OPEN 11264
 #define SIMD_STACK_HMAC_FEED 9728
 #define SIMD_STACK_HMAC_TAKE 11264
-#define SIMD_STACK_HMAC_CHECK 9728
+#define SIMD_STACK_HMAC_CHECK 10240
 #define SIMD_STACK_HMAC 12288
 #define SIMD_STACK_EXPAND 3840
 #define SIMD_STACK_STEPS 4608
@@ -396,10 +447,10 @@ extern "C" {
                                     a message with one key block */
 #define SIMD_REFUSED_HASH 5      /* an open hash that is none; here, two stored forms that no
                                     keyed hash holds */
-#define SIMD_REFUSED_OUTPUT 6    /* the output is too short */
+#define SIMD_REFUSED_OUTPUT 6    /* the output is too short; so is an old form, fed in place */
 #define SIMD_REFUSED_BLOCK 7     /* a block or state of another size than the width's; a digest
                                     of another length than its width asks */
-#define SIMD_REFUSED_FORM 8      /* a stored form of another size than its width's */
+#define SIMD_REFUSED_FORM 8      /* a stored form of another size than the two of its width */
 #define SIMD_REFUSED_TAIL 9      /* a stored form with a bit set past the tail */
 #define SIMD_REFUSED_COMMAND 10  /* tape: no such command */
 #define SIMD_REFUSED_END 11      /* tape: ends in a command, or before STOP */
@@ -419,11 +470,11 @@ static inline const char *simd_refusal_text(uint8_t refusal)
     case SIMD_REFUSED_WIDTH: return "the width is none of 224, 256, 384 and 512";
     case SIMD_REFUSED_COUNT: return "more bits than the bytes have";
     case SIMD_REFUSED_SPARE: return "retired: bits past the count are ignored";
-    case SIMD_REFUSED_TOTAL: return "more than 4294967295 bits in all";
+    case SIMD_REFUSED_TOTAL: return "more than 18446744073709551615 bits in all";
     case SIMD_REFUSED_HASH: return "the open or keyed hash is none";
     case SIMD_REFUSED_OUTPUT: return "the output is too short";
     case SIMD_REFUSED_BLOCK: return "the block, state or digest has not the width's size";
-    case SIMD_REFUSED_FORM: return "the stored form has not its width's size";
+    case SIMD_REFUSED_FORM: return "the stored form has neither of its width's sizes";
     case SIMD_REFUSED_TAIL: return "a bit of the stored form is set past its tail";
     case SIMD_REFUSED_COMMAND: return "no such command on the tape";
     case SIMD_REFUSED_END: return "the tape ends in a command or before STOP";
@@ -444,7 +495,7 @@ static inline const char *simd_refusal_text(uint8_t refusal)
 /* OPEN HASH
 
    An open hash is held by the caller as its stored form, SIMD_FORM(width)
-   bytes: the width (2 bytes, little endian), the bit length so far (4 bytes,
+   bytes: the width (2 bytes, little endian), the bit length so far (8 bytes,
    little endian), the state after all full blocks (words little endian, in the
    order A0, A1, .., B0, .., D3 or D7), then one block with the bits that fill no
    block yet and zeros after them.  To store a hash is to keep these bytes.
@@ -452,10 +503,22 @@ static inline const char *simd_refusal_text(uint8_t refusal)
    worked out from that state.  The zeros after the tail belong to the form: it is
    not a piece, and a bit set there is refused.
 
+   OLD FORMS have 4 length bytes, and so SIMD_OLD_FORM(width) bytes in all; they were
+   written while a hash held its length in 32 bits.  Such a form is told by its size
+   and stands for the one with four zero bytes put behind its length.
+     - simd_take takes it as it is, and so do simd_hmac_take and simd_hmac_check an
+       old keyed form.
+     - To feed it, simd_restore it first, into a buffer of SIMD_FORM(width) bytes, as
+       restore.c above does.  Fed in place, it has no room for the length:
+       SIMD_REFUSED_OUTPUT, after all other refusals, with nothing changed.
+   So no call writes an old form; to store a restored one again is to keep it in
+   today's size.
+
    A form handed over is refused with
      SIMD_REFUSED_FORM    form_len is below 2
      SIMD_REFUSED_WIDTH   its width is none of the four
-     SIMD_REFUSED_FORM    form_len is not SIMD_FORM(width)
+     SIMD_REFUSED_FORM    form_len is neither SIMD_FORM(width) nor
+                          SIMD_OLD_FORM(width)
      SIMD_REFUSED_TAIL    a bit of its last block is set past the tail, which has
                           as many bits as the length leaves over full blocks
    in this order; below, "those of a form". */
@@ -480,7 +543,8 @@ SIMD_CALL uint8_t simd_open(uint16_t width, uint8_t *form, size_t form_len);
    Refusals, in order:
      those of a form
      SIMD_REFUSED_COUNT   bits is above 8 * piece_len
-     SIMD_REFUSED_TOTAL   the hash would have more than SIMD_BITS_MAX bits */
+     SIMD_REFUSED_TOTAL   the hash would have more than SIMD_BITS_MAX bits
+     SIMD_REFUSED_OUTPUT  form is an old one: simd_restore it first */
 SIMD_CALL uint8_t simd_feed(uint8_t *form, size_t form_len,
                             const uint8_t *piece, size_t piece_len, uint64_t bits,
                             uint64_t *blocks);
@@ -488,15 +552,28 @@ SIMD_CALL uint8_t simd_feed(uint8_t *form, size_t form_len,
 /* simd_take - take the digest of what was fed
 
    Writes the digest to the first SIMD_DIGEST(width) bytes of out; the width is
-   the form's.  The hash stays open: form is not changed and may be fed on.
-   *blocks becomes the number of blocks compressed: 2 where bits were left over
-   full blocks, else 1.
+   the form's, which may be an old one.  The hash stays open: form is not changed
+   and may be fed on.  *blocks becomes the number of blocks compressed: 2 where bits
+   were left over full blocks, else 1.
 
    Refusals, in order:
      those of a form
      SIMD_REFUSED_OUTPUT  out_len is below SIMD_DIGEST(width) */
 SIMD_CALL uint8_t simd_take(const uint8_t *form, size_t form_len,
                             uint8_t *out, size_t out_len, uint64_t *blocks);
+
+/* simd_restore - a stored form of either size, in today's
+
+   Writes the form of the hash in stored to the first SIMD_FORM(width) bytes of
+   form; the width is that of stored.  Of an old form this is the one that it stands
+   for, of a form of today's size the same bytes.  form may then be fed, taken and
+   kept as any other.  stored and form are two buffers that do not overlap.
+
+   Refusals, in order:
+     those of a form, by stored and stored_len
+     SIMD_REFUSED_OUTPUT  form_len is below SIMD_FORM(width) */
+SIMD_CALL uint8_t simd_restore(const uint8_t *stored, size_t stored_len,
+                               uint8_t *form, size_t form_len);
 
 /* ONE CALL FOR A WHOLE MESSAGE */
 
@@ -509,26 +586,32 @@ SIMD_CALL uint8_t simd_take(const uint8_t *form, size_t form_len,
    Refusals, in order:
      SIMD_REFUSED_WIDTH
      SIMD_REFUSED_COUNT   bits is above 8 * message_len
-     SIMD_REFUSED_TOTAL   bits is above SIMD_BITS_MAX
+     SIMD_REFUSED_TOTAL   never: bits cannot be above SIMD_BITS_MAX
      SIMD_REFUSED_OUTPUT  out_len is below SIMD_DIGEST(width) */
 SIMD_CALL uint8_t simd_hash(uint16_t width, const uint8_t *message, size_t message_len,
                             uint64_t bits, uint8_t *out, size_t out_len);
 
 /* KEYED SEALS
 
-   HMAC of FIPS 198-1 over the digest of the width.  A key is 0 to 536,870,911
-   whole bytes: one that is longer than SIMD_BLOCK(width) bytes is hashed first, one
-   of exactly so many is not.  A tag has SIMD_DIGEST(width) bytes.
+   HMAC of FIPS 198-1 over the digest of the width.  A key is 0 to
+   2,305,843,009,213,693,951 whole bytes: one that is longer than SIMD_BLOCK(width)
+   bytes is hashed first, one of exactly so many is not.  A tag has
+   SIMD_DIGEST(width) bytes.
 
    A keyed hash is held by the caller as its keyed form, SIMD_HMAC_FORM(width)
    bytes: the stored form of the inner hash, which has taken the key block and what
    was fed, and then that of the outer one, which has taken the key block alone.
    To store a keyed hash is to keep these bytes.
 
+   An OLD KEYED FORM is two old forms, SIMD_OLD_HMAC_FORM(width) bytes, and is taken
+   and checked as it is.  To feed it, restore both halves first: simd_restore its
+   first SIMD_OLD_FORM(width) bytes into the first SIMD_FORM(width) of a buffer of
+   SIMD_HMAC_FORM(width), and its others into the others.
+
    A KEYED FORM IS AS SECRET AS ITS KEY: who has it can make seals under that key.
    Store it as a key is stored, and wipe it once it is not needed any more, as
-   keyed.c above does.  No call clears the stack that it used: parts of a key or of
-   a form may be left there.
+   keyed.c above does; so also an old one that was restored.  No call clears the
+   stack that it used: parts of a key or of a form may be left there.
 
    0 MEANS "NOT REFUSED", NOT "RIGHT": the verdict of a check is in *right.
 
@@ -564,7 +647,8 @@ SIMD_CALL uint8_t simd_hmac_open(uint16_t width, const uint8_t *key, size_t key_
      those of a keyed form
      SIMD_REFUSED_COUNT   bits is above 8 * piece_len
      SIMD_REFUSED_TOTAL   key block and message would have more than SIMD_BITS_MAX
-                          bits */
+                          bits
+     SIMD_REFUSED_OUTPUT  form is an old one: simd_restore its halves first */
 SIMD_CALL uint8_t simd_hmac_feed(uint8_t *form, size_t form_len,
                                  const uint8_t *piece, size_t piece_len, uint64_t bits,
                                  uint64_t *blocks);
@@ -572,9 +656,9 @@ SIMD_CALL uint8_t simd_hmac_feed(uint8_t *form, size_t form_len,
 /* simd_hmac_take - take the tag of what was fed
 
    Writes the tag to the first SIMD_DIGEST(width) bytes of tag; the width is the
-   form's.  The keyed hash stays open: form is not changed and may be fed on.
-   *blocks becomes the number of blocks compressed: 4 where bits were left over
-   full blocks, else 3; 2 of them are the outer hash's.
+   form's, which may be an old one.  The keyed hash stays open: form is not changed
+   and may be fed on.  *blocks becomes the number of blocks compressed: 4 where bits
+   were left over full blocks, else 3; 2 of them are the outer hash's.
 
    Refusals, in order:
      those of a keyed form
@@ -587,7 +671,8 @@ SIMD_CALL uint8_t simd_hmac_take(const uint8_t *form, size_t form_len,
    *right becomes 1 where the tag_len bytes of tag are the whole tag, neither
    shorter nor longer nor other, and else 0.  A tag of another length, also an
    empty one, is not refused: *right becomes 0.  On a refusal *right is left as it
-   was; set it to 0 before the call.  The keyed hash stays open.
+   was; set it to 0 before the call.  The keyed hash stays open.  form may be an old
+   one.
 
    Refusals:
      those of a keyed form */
@@ -672,7 +757,7 @@ SIMD_CALL uint8_t simd_unsteps(uint16_t width, bool last,
    Refusals, in order:
      SIMD_REFUSED_WIDTH
      SIMD_REFUSED_COUNT   of a: a_bits is above 8 * a_len
-     SIMD_REFUSED_TOTAL   of a: a_bits is above SIMD_BITS_MAX
+     SIMD_REFUSED_TOTAL   of a: never, since a_bits cannot be above SIMD_BITS_MAX
      the same two of b */
 SIMD_CALL uint8_t simd_compare(uint16_t width,
                                const uint8_t *a, size_t a_len, uint64_t a_bits,
@@ -802,10 +887,13 @@ SIMD_CALL uint8_t simd_quote_check(const uint8_t *quote, size_t quote_len, uint6
    index and the blocks after the last state kept before the correction.
 
    It has SIMD_INDEX(width, bits) bytes: the width (2 bytes, little endian), the bit
-   length (4 bytes, little endian), then the states before blocks 0, 16, 32 and so on,
+   length (8 bytes, little endian), then the states before blocks 0, 16, 32 and so on,
    one for every full block so numbered, each SIMD_BLOCK(width) bytes in the order of
    the stored form.  A last block that is not full and the length block keep none, and a
-   record of less than a block has an index of 6 bytes.
+   record of less than a block has an index of SIMD_HEAD bytes.
+
+   AN OLD INDEX, with 4 length bytes, is not taken: it has another size, and so is
+   SIMD_REFUSED_INDEX.  Make it again from the record with simd_index.
 
    Blocks are counted from the front: the first is 0, and the number of the length
    block is that of all message blocks, the last one counted also where it is not full.
@@ -826,7 +914,7 @@ SIMD_CALL uint8_t simd_quote_check(const uint8_t *quote, size_t quote_len, uint6
    Refusals, in order:
      SIMD_REFUSED_WIDTH
      SIMD_REFUSED_COUNT   bits is above 8 * message_len
-     SIMD_REFUSED_TOTAL   bits is above SIMD_BITS_MAX
+     SIMD_REFUSED_TOTAL   never: bits cannot be above SIMD_BITS_MAX
      SIMD_REFUSED_OUTPUT  index_len is below SIMD_INDEX(width, bits), or out_len below
                           SIMD_DIGEST(width) */
 SIMD_CALL uint8_t simd_index(uint16_t width, const uint8_t *message, size_t message_len,
@@ -856,7 +944,7 @@ SIMD_CALL uint8_t simd_index(uint16_t width, const uint8_t *message, size_t mess
    Refusals, in order:
      SIMD_REFUSED_WIDTH
      SIMD_REFUSED_COUNT   bits is above 8 * message_len
-     SIMD_REFUSED_TOTAL   bits is above SIMD_BITS_MAX
+     SIMD_REFUSED_TOTAL   never: bits cannot be above SIMD_BITS_MAX
      SIMD_REFUSED_INDEX   old_len is not SIMD_INDEX(width, bits), the width or the bit
                           length in old is not that given, or block is above the number
                           of the length block

@@ -27,6 +27,7 @@ CALLS = {
     "simd_open": (WIDTH, *SLICE),
     "simd_feed": (*SLICE, *SLICE, BITS, NUMBER),
     "simd_take": (*SLICE, *SLICE, NUMBER),
+    "simd_restore": (*SLICE, *SLICE),
     "simd_hash": (WIDTH, *SLICE, BITS, *SLICE),
     "simd_hmac_open": (WIDTH, *SLICE, *SLICE),
     "simd_hmac_feed": (*SLICE, *SLICE, BITS, NUMBER),
@@ -145,6 +146,10 @@ def feed(form, piece, bits, blocks=0):
 
 def take(form, out, blocks=0):
     return call(library.simd_take, const(form), Lent(out), LentNumber(blocks))
+
+
+def restore(stored, form):
+    return call(library.simd_restore, const(stored), Lent(form))
 
 
 def hash(width, message, bits, out):

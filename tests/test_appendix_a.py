@@ -12,6 +12,7 @@ import sys
 
 from tally import Tally
 import check
+import form_ref
 import product
 import simd_ref as ref
 
@@ -48,11 +49,11 @@ class Door:
 
     @staticmethod
     def empty(width):
-        return accepted(product.open(width, bytes(6 + 2 * ref.block_bytes(width))))
+        return accepted(product.open(width, bytes(form_ref.size(width))))
 
     @classmethod
     def start(cls, width):
-        return cls.empty(width)[6:6 + ref.block_bytes(width)]
+        return form_ref.state_of(cls.empty(width))
 
     @classmethod
     def compression(cls, width, last, state, block):
@@ -77,10 +78,9 @@ class Door:
         if last:
             return values, None
         # Fed to a hash with this state and no tail, the block is compressed.
-        empty = cls.empty(width)
-        form = accepted(product.feed(empty[:6] + state + empty[6 + size:], block, 8 * size))
-        assert byte_columns(width, form[6:6 + size]) == states[35], "a feed ends elsewhere"
-        return values, form[6:6 + size]
+        form = accepted(product.feed(form_ref.made(width, 0, state, bytes(size)), block, 8 * size))
+        assert byte_columns(width, form_ref.state_of(form)) == states[35], "a feed ends elsewhere"
+        return values, form_ref.state_of(form)
 
 
 def main():

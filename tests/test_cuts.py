@@ -11,6 +11,7 @@ import sys
 
 from tally import Tally, bits_of
 import check
+import form_ref
 import product
 import simd_ref as ref
 
@@ -45,11 +46,10 @@ def pieces(bits, sizes):
 def main():
     tally, feeds = Tally("cuts"), 0
     for width in ref.WIDTHS:
-        size = 6 + 2 * ref.block_bytes(width)
         for m, (data, bits, digest) in enumerate(check.messages(width), 1):
             for name, sizes in CUTS:
                 what = "SIMD-%d message %d, %s" % (width, m, name)
-                refusal, form = product.open(width, bytes(size))
+                refusal, form = product.open(width, bytes(form_ref.size(width)))
                 tally.equal(refusal, 0, what + ": open")
                 total = 0
                 for start, count in pieces(bits, sizes):

@@ -11,19 +11,26 @@ import sys
 
 from tally import HERE, Tally, cleaned, read_bytes
 import door_ref
+import form_ref
 import product
 
 LENT = bytes((91 * k + 7) % 256 for k in range(600))
 STATE = bytes((59 * k + 3) % 256 for k in range(128))
 NUMBER = 0x0123456789ABCDEF
+OLD = "old:"
+
+
+def read_head(text):
+    """(what makes the front of a form or an index, the rest of its text)."""
+    return (form_ref.old_head, text[len(OLD):]) if text.startswith(OLD) else (form_ref.head, text)
 
 
 def read_form(text):
+    head, text = read_head(text)
     width, length, tail, size = text.split("/")
     width, size = int(width), int(size)
     block = 128 if width > 256 else 64
-    form = (width.to_bytes(2, "little") + int(length).to_bytes(4, "little")
-            + STATE[:block] + read_bytes(tail).ljust(block, b"\0"))
+    form = head(width, int(length)) + STATE[:block] + read_bytes(tail).ljust(block, b"\0")
     return form[:size].ljust(size, b"\0")
 
 
@@ -33,9 +40,10 @@ def read_keyed(text):
 
 def read_index(text, given):
     """An index with states that no message reaches."""
+    head, text = read_head(text)
     width, length, size = text.split("/")
     width, size = given if width == "-" else int(width), int(size)
-    return (width.to_bytes(2, "little") + int(length).to_bytes(4, "little") + LENT)[:size]
+    return (head(width, int(length)) + LENT)[:size]
 
 
 def arguments(call, field):
@@ -49,6 +57,8 @@ def arguments(call, field):
         return (read_form(field["form"]), read_bytes(field["piece"]), int(field["bits"]), NUMBER)
     if call == "take":
         return read_form(field["form"]), lent["out"], NUMBER
+    if call == "restore":
+        return read_form(field["stored"]), LENT[:int(field["form"])]
     if call == "hash":
         return width, read_bytes(field["message"]), int(field["bits"]), lent["out"]
     if call == "hmac_open":
@@ -81,7 +91,7 @@ def arguments(call, field):
 
 
 # The places, among the arguments, of what each call is lent to write to.
-WRITTEN = {"open": (1,), "feed": (0, 3), "take": (1, 2), "hash": (3,), "hmac_open": (2,),
+WRITTEN = {"open": (1,), "feed": (0, 3), "take": (1, 2), "restore": (1,), "hash": (3,), "hmac_open": (2,),
            "hmac_feed": (0, 3), "hmac_take": (1, 2), "hmac_check": (2,), "hmac": (4,), "expand": (3,),
            "steps": (4,), "unsteps": (4,), "compare": (5, 6), "page_entry": (3,),
            "quote": (2,), "quote_check": (1,), "index": (3, 4, 5), "reindex": (5, 6, 7)}

@@ -3,9 +3,9 @@
 
     test_fuzz.py [--seed S] [--count N]
 
-N calls with random sizes, widths, counts and damaged forms, each held to the
-reference's answer and to every byte lent; guard bytes stand round every
-buffer.  Where a count leaves bits or bytes over, the reference is not given
+N calls with random sizes, widths, counts and damaged forms, old ones among them,
+each held to the reference's answer and to every byte lent; guard bytes stand round
+every buffer.  Where a count leaves bits or bytes over, the reference is not given
 them.  Forms that calls return are used again.
 """
 
@@ -14,6 +14,7 @@ import sys
 
 from tally import Tally, message, random_arguments
 import door_ref
+import form_ref
 import index_ref
 import product
 import quote_ref
@@ -21,7 +22,7 @@ import simd_ref as ref
 import tapes
 from test_edges import with_zeros
 
-LIMIT = 4294967295
+LIMIT = form_ref.BITS_MAX
 SPARE_WIDTHS = (0, 1, 2, 128, 223, 225, 255, 257, 383, 385, 511, 513, 65535)
 
 
@@ -39,8 +40,13 @@ def a_width(rng):
     return rng.choice(ref.WIDTHS) if rng.randrange(8) else rng.choice(SPARE_WIDTHS)
 
 
+def known(width):
+    """A width that has sizes."""
+    return width if width in ref.WIDTHS else 256
+
+
 def block_size(width):
-    return ref.block_bytes(width) if width in ref.WIDTHS else 64
+    return ref.block_bytes(known(width))
 
 
 def a_message(rng, longest):
@@ -74,27 +80,33 @@ class Calls:
         """A form of that length, with any state and tail."""
         size = ref.block_bytes(width)
         tail = message(self.rng, length % (8 * size)).ljust(size, b"\0")
-        return (width.to_bytes(2, "little") + length.to_bytes(4, "little")
-                + self.rng.randbytes(size) + tail)
+        return form_ref.made(width, length, self.rng.randbytes(size), tail)
 
     def a_length(self, least):
-        """A bit length, often next to the least one or to the limit."""
+        """A bit length, often next to the least one, to the limit or to that of old forms."""
         rng = self.rng
         return rng.choice((least + rng.randrange(256), rng.randrange(least, LIMIT + 1),
-                           LIMIT - rng.randrange(3000), LIMIT))
+                           LIMIT - rng.randrange(3000), LIMIT,
+                           form_ref.OLD_BITS_MAX - rng.randrange(3000), form_ref.OLD_BITS_MAX + rng.randint(-1, 2),
+                           rng.randrange(least, form_ref.OLD_BITS_MAX)))
 
-    def form(self):
+    def aged(self, form, often=4):
+        """A form, at times the old one where its length fits that."""
+        short = form_ref.bits_of(form) <= form_ref.OLD_BITS_MAX
+        return form_ref.as_old(form) if short and not self.rng.randrange(often) else form
+
+    def form(self, often=4):
         rng = self.rng
         if self.forms and rng.randrange(2):
-            return self.damaged(rng.choice(self.forms))
-        return self.damaged(self.made(rng.choice(ref.WIDTHS), self.a_length(0)))
+            return self.damaged(self.aged(rng.choice(self.forms), often))
+        return self.damaged(self.aged(self.made(rng.choice(ref.WIDTHS), self.a_length(0)), often))
 
     def keyed_form(self):
         """Two forms: most often such as a keyed hash holds, else exchanged, one of them twice, of
-        unequal widths, or of lengths next to those it holds."""
+        unequal widths, or of lengths next to those it holds.  Some are old, some half old."""
         rng = self.rng
         if self.keyed_forms and rng.randrange(2):
-            return self.damaged(rng.choice(self.keyed_forms))
+            return self.damaged(self.aged_halves(*door_ref.halves(rng.choice(self.keyed_forms))))
         width = rng.choice(ref.WIDTHS)
         key_bits = ref.block_bits(width)
         inner, outer = self.made(width, self.a_length(key_bits)), self.made(width, key_bits)
@@ -109,7 +121,18 @@ class Calls:
             outer = self.made(width, rng.choice((0, key_bits - 1, key_bits + 1, 2 * key_bits)))
         elif kind == 4:
             inner, outer = rng.choice(((self.damaged(inner), outer), (inner, self.damaged(outer))))
-        return self.damaged(inner + outer) if kind > 8 else inner + outer
+            return inner + outer
+        form = self.aged_halves(inner, outer)
+        return self.damaged(form) if kind > 8 else form
+
+    def aged_halves(self, inner, outer):
+        """A keyed form of two of today's size: at times both old, seldom one of them."""
+        rng = self.rng
+        if max(map(form_ref.bits_of, (inner, outer))) > form_ref.OLD_BITS_MAX or rng.randrange(3):
+            return inner + outer
+        if rng.randrange(6):
+            return form_ref.as_old(inner) + form_ref.as_old(outer)
+        return rng.choice((form_ref.as_old(inner) + outer, inner + form_ref.as_old(outer)))
 
     def damaged(self, form):
         """A form, most often as it is."""
@@ -120,30 +143,37 @@ class Calls:
             form[place] ^= 1 << rng.randrange(8)
         elif kind == 1:
             form[:2] = a_width(rng).to_bytes(2, "little")
-        elif kind == 2:
-            form = form[:rng.randrange(len(form))]
+        elif kind == 2:                  # by 4: from today's size to the old one, or the other way
+            form = form[:rng.choice((rng.randrange(len(form)), max(0, len(form) - 4)))]
         elif kind == 3:
-            form += rng.randbytes(rng.choice((1, 128)))
+            form += rng.choice((rng.randbytes(rng.choice((1, 4, 128))), bytes(4)))
         return bytes(form)
 
     def keep(self, name, form):
-        if name == "feed":
-            self.forms = self.forms[-20:] + [form]
+        """A form is kept without what stayed behind it in a longer buffer."""
+        if name in ("feed", "restore"):
+            self.forms = self.forms[-20:] + [form[:form_ref.size(form_ref.width_of(form))]]
         elif name in ("hmac_open", "hmac_feed"):
-            self.keyed_forms = self.keyed_forms[-20:] + [form]
+            self.keyed_forms = self.keyed_forms[-20:] + [form[:form_ref.keyed_size(form_ref.width_of(form))]]
         elif name in ("index", "reindex"):
             self.indexes = self.indexes[-20:] + [form]
 
     def open(self):
         width = a_width(self.rng)
-        return width, self.lent(6 + 2 * block_size(width))
+        return width, self.lent(form_ref.size(known(width)))
 
     def feed(self):
         return self.form(), *a_message(self.rng, 300), self.number()
 
     def take(self):
         form = self.form()
-        return form, self.lent(int.from_bytes(form[:2], "little") % 1024 // 8), self.number()
+        return form, self.lent(form_ref.width_of(form) % 1024 // 8), self.number()
+
+    def restore(self):
+        """Every second form an old one; a room for it, or of the old size."""
+        form = self.form(2)
+        size = form_ref.size(known(form_ref.width_of(form)))
+        return form, self.lent(self.rng.choice((size, size, size, len(form))))
 
     def hash(self):
         width = a_width(self.rng)
@@ -156,14 +186,14 @@ class Calls:
     def hmac_open(self):
         width = a_width(self.rng)
         size = block_size(width)
-        return width, self.key(size), self.lent(2 * (6 + 2 * size))
+        return width, self.key(size), self.lent(form_ref.keyed_size(known(width)))
 
     def hmac_feed(self):
         return self.keyed_form(), *a_message(self.rng, 300), self.number()
 
     def hmac_take(self):
         form = self.keyed_form()
-        return form, self.lent(int.from_bytes(form[:2], "little") % 1024 // 8), self.number()
+        return form, self.lent(form_ref.width_of(form) % 1024 // 8), self.number()
 
     def hmac_check(self):
         """Most often the right tag or one next to it."""
@@ -256,38 +286,40 @@ class Calls:
 
     def rooms(self, width, bits):
         """For an index and a digest; a count that no message here has asks for no more than the longest."""
-        known, lent = width if width in ref.WIDTHS else 256, self.rng.choice((self.lent, self.rng.randbytes))
-        return lent(index_ref.size(known, min(bits, 10 ** 5))), lent(width % 1024 // 8)
+        lent = self.rng.choice((self.lent, self.rng.randbytes))
+        return lent(index_ref.size(known(width), min(bits, 10 ** 5))), lent(width % 1024 // 8)
 
     def reindex(self):
         """From an index that a call returned, with a message of its length, or from one with any states; some of
-        them damaged, some messages of another length.  Most often a block number that there is."""
+        them old, some damaged, some messages of another length.  Most often a block number that there is."""
         rng, width = self.rng, self.rng.choice(ref.WIDTHS)
         data, bits = a_message(rng, rng.choice((300, 300, 3000)))
         if self.indexes and rng.randrange(3):
             old = rng.choice(self.indexes)
-            width, bits = int.from_bytes(old[:2], "little"), int.from_bytes(old[2:6], "little")
+            width, bits = form_ref.width_of(old), form_ref.bits_of(old)
             old, data = old[:index_ref.size(width, bits)], message(rng, bits) + rng.randbytes(rng.choice((0, 0, 9)))
         else:
-            old = index_ref.head(width, min(bits, LIMIT))
+            old = form_ref.head(width, bits)
             old += rng.randbytes(index_ref.size(width, min(bits, 10 ** 5)) - len(old))
         numbers = min(bits, 10 ** 5) // ref.block_bits(width) + 2
         block = rng.choice((rng.randrange(numbers), rng.randrange(numbers), numbers - 1, self.number()))
         if not rng.randrange(12):
             width = a_width(rng)
         if not rng.randrange(12):
-            bits = max(0, bits + rng.choice((-1, 1)))
-        if rng.randrange(2):
+            bits = min(max(0, bits + rng.choice((-1, 1))), 2 ** 64 - 1)
+        if bits <= form_ref.OLD_BITS_MAX and not rng.randrange(12):
+            old = index_ref.as_old(old)
+        elif rng.randrange(2):
             old = self.damaged(old)
         return width, data, bits, old, block, *self.rooms(width, bits), self.number()
 
 
-NAMES = ("open", "feed", "take", "hash", "hmac_open", "hmac_feed", "hmac_take", "hmac_check", "hmac",
+NAMES = ("open", "feed", "take", "restore", "hash", "hmac_open", "hmac_feed", "hmac_take", "hmac_check", "hmac",
          "expand", "steps", "unsteps", "compare", "tape", "page_entry", "quote", "quote_check", "index", "reindex")
 
 
 def main():
-    rng, count = random_arguments(6, 7600)
+    rng, count = random_arguments(6, 8000)
     tally, calls = Tally("fuzz"), Calls(rng)
     met = {name: collections.Counter() for name in NAMES}
     verdicts = {name: collections.Counter() for name in ("hmac_check", "quote_check")}

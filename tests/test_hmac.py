@@ -15,11 +15,12 @@ from tally import Tally, bits_of, message, random_arguments
 from test_cuts import CUTS, pieces
 from test_random import cut, length
 import door_ref
+import form_ref
 import hmac_ref
 import product
 import simd_ref as ref
 
-LIMIT = 4294967295
+LIMIT = form_ref.BITS_MAX
 NUMBER = 0x0123456789ABCDEF
 OTHER = {224: 256, 256: 224, 384: 512, 512: 384}     # the other width of the family
 
@@ -33,10 +34,6 @@ def message_of(bits):
     return bits_of(some_bytes(-(-bits // 8) + 1, 5), 0, bits)
 
 
-def form_size(width):
-    return 2 * (6 + 2 * ref.block_bytes(width))
-
-
 def expected_tag(width, key, data, bits):
     if bits % 8:
         return hmac_ref.tag(width, key, data, bits)
@@ -44,13 +41,13 @@ def expected_tag(width, key, data, bits):
 
 
 def opened(width, key):
-    return product.hmac_open(width, key, bytes(form_size(width)))[1]
+    return product.hmac_open(width, key, bytes(form_ref.keyed_size(width)))[1]
 
 
 def in_pieces(width, key, data, sizes):
     """(refusal, tag, blocks reported) of a message fed in pieces.  The form that a call leaves is
     all that the next one gets."""
-    refusal, form = product.hmac_open(width, key, bytes(form_size(width)))
+    refusal, form = product.hmac_open(width, key, bytes(form_ref.keyed_size(width)))
     total, at = 0, 0
     for size in sizes:
         if not refusal:
@@ -77,10 +74,10 @@ def check_keys(tally):
             key = some_bytes(key_size, width % 251)
             what = "SIMD-%d, a key of %d bytes" % (width, key_size)
             block = hmac_ref.key_block(size, lambda data, bits: ref.digest(width, data, bits), key)
-            plain = product.open(width, bytes(form_size(width) // 2))[1]
+            plain = product.open(width, bytes(form_ref.size(width)))[1]
             stored = b"".join(product.feed(plain, hmac_ref.padded(block, pad), 8 * size)[1]
                               for pad in (hmac_ref.IPAD, hmac_ref.OPAD))
-            tally.equal(product.hmac_open(width, key, bytes(form_size(width))), (0, stored), what + ": its form")
+            tally.equal(product.hmac_open(width, key, bytes(form_ref.keyed_size(width))), (0, stored), what + ": its form")
             for bits in (0, 1, 3, 8, 24, 8 * size - 1, 8 * size, 8 * size + 1, 1079):
                 data = message_of(bits)
                 tag = expected_tag(width, key, data, bits)
@@ -165,8 +162,8 @@ def check_tags(tally):
 
 def with_length(form, count):
     """A form with another bit length and nothing in its last block."""
-    block = (len(form) - 6) // 2
-    return form[:2] + count.to_bytes(4, "little") + form[6:6 + block] + bytes(block)
+    width, _, state, block = form_ref.parts(form)
+    return form_ref.made(width, count, state, bytes(len(block)))
 
 
 def with_width(form, width):
@@ -205,12 +202,12 @@ def damaged(width):
     yield "the inner one's width changed", with_width(inner, other) + outer, 5
     yield "both widths changed", with_width(inner, other) + with_width(outer, other), 0
     for count, refusal in ((0, 5), (1, 5), (size // 2, 5), (size - 8, 5), (size - 1, 5), (size, 0), (size + 1, 0),
-                           (2 * size, 0), (LIMIT - 1, 0), (LIMIT, 0)):
+                           (2 * size, 0), (2 ** 32 - 1, 0), (2 ** 32, 0), (2 ** 32 + size, 0), (LIMIT - 1, 0), (LIMIT, 0)):
         yield "an inner one of %d bits" % count, with_length(inner, count) + outer, refusal
     for count, refusal in ((0, 5), (1, 5), (size - 1, 5), (size, 0), (size + 1, 5), (size + 8, 5), (2 * size, 5),
-                           (LIMIT, 5)):
+                           (2 ** 32, 5), (2 ** 32 + size, 5), (LIMIT, 5)):
         yield "an outer one of %d bits" % count, inner + with_length(outer, count), refusal
-    yield "a state that no key reaches", with_bit(with_bit(fed, 6), half + 6), 0
+    yield "a state that no key reaches", with_bit(with_bit(fed, form_ref.HEAD), half + form_ref.HEAD), 0
 
     # Each half as a stored form: 8, 1, 8, 9, the inner one first.
     yield "a bit past the inner tail", with_bit(inner) + outer, 9
@@ -271,7 +268,7 @@ def check_forms(tally):
 
 
 def check_limit(tally):
-    """Both sides of 4,294,967,295 bits with the key block, from forms of a length near it."""
+    """Both sides of 18,446,744,073,709,551,615 bits with the key block, from forms of a length near it."""
     for width in ref.WIDTHS:
         fresh = opened(width, some_bytes(33))
         half, size = len(fresh) // 2, 8 * ref.block_bytes(width)
@@ -296,7 +293,7 @@ def check_limit(tally):
                     tally.equal(product.hmac_feed(form, with_bit(piece), count, NUMBER), found,
                                 what + ": a bit past the count")
                 full = found[1]
-                tally.equal(int.from_bytes(full[2:6], "little"), LIMIT, what + ": its length")
+                tally.equal(form_ref.bits_of(full), LIMIT, what + ": its length")
                 taken = product.hmac_take(full, bytes(width // 8), NUMBER)
                 tally.equal(taken, door_ref.hmac_take(full, bytes(width // 8), NUMBER), what + ": its tag")
                 tally.equal(product.hmac_check(full, taken[1], NUMBER), (0, 1), what + ": checked")

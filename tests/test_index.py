@@ -21,14 +21,14 @@ import os
 import sys
 
 from tally import Tally, cleaned, message, random_arguments
-from test_limit import LIMIT, map_memory
 from test_rubbish import soiled
+import form_ref
 import index_ref
 import product
 import simd_ref as ref
 
 BLOCKS = 50
-HEAD = 6
+HEAD = form_ref.HEAD
 NUMBER = 0x0123456789ABCDEF
 OTHER = {224: 256, 256: 224, 384: 512, 512: 384}     # the other width of the family
 UNKNOWN = (0, 1, 64, 128, 160, 223, 225, 255, 257, 383, 385, 511, 513, 1024, 65535)
@@ -155,9 +155,9 @@ def check_fresh(calls, rng):
             tally.equal(product.hash(width, data, bits, bytes(width // 8)), (0, digest), what + ": the digest alone")
             records[width, bits] = data, index, digest
         # The states of the longest record are those of an open hash that was fed so many blocks.
-        form = product.open(width, bytes(6 + 2 * size))[1]
+        form = product.open(width, bytes(form_ref.size(width)))[1]
         for place in range(states(width, BLOCKS * 8 * size)):
-            tally.equal(form[6:6 + size], state_at(width, index, place), "SIMD-%d, state %d" % (width, place))
+            tally.equal(form_ref.state_of(form), state_at(width, index, place), "SIMD-%d, state %d" % (width, place))
             form = product.feed(form, stream[16 * size * place:][:16 * size], 128 * size)[1]
     return records
 
@@ -264,7 +264,9 @@ def check_shapes(calls, rng, records):
             others += [(fresh(width, data + bytes(1), other)[0], "that of %d bits" % other)
                        for other in (bits - 8, bits - 1, bits + 1, bits + 8) if other >= 0]
             others += [(old[2:HEAD] + old[:2] + old[HEAD:], "length in front of the width"),
-                       (old[:2][::-1] + old[2:], "high byte of the width first")]
+                       (old[:2][::-1] + old[2:], "high byte of the width first"),
+                       (old[:2] + old[2:HEAD][::-1] + old[HEAD:], "high byte of the length first"),
+                       (index_ref.as_old(old), "4 length bytes")]
             for other, why in others:
                 if other != old:
                     for number in {0, last}:
@@ -289,32 +291,30 @@ def check_rooms(calls, rng, records):
 
 
 def check_order(calls, rng, records):
-    """Every set of broken rules, in every way that they are broken here: the first in the order 1, 2, 4, 15, 6 is
-    answered, of a fresh run without 15."""
-    zeros, tally = (map_memory(2 ** 29 + 4096), 2 ** 29 + 1), calls.tally
+    """Every set of broken rules, in every way that they are broken here: the first in the order 1, 2, 15, 6 is
+    answered, of a fresh run without 15.  4 comes after 2, but no count that is given has more bits than a message
+    may have."""
+    tally = calls.tally
     for width in ref.WIDTHS:
         bits = 17 * ref.block_bits(width) + 1
         data, old, digest = records[width, bits]
         last, most = last_number(width, bits), 8 * len(data)
-        # By whether 2 and 4 are broken; what has more bits than are allowed is mapped and not read.
-        messages = {(False, False): ((data, bits),),
-                    (True, False): ((data, most + 1), (b"", bits), (data, LIMIT)),
-                    (False, True): ((zeros, LIMIT + 1), (zeros, LIMIT + 9)),
-                    (True, True): ((data, LIMIT + 1), (b"", 2 ** 32 + bits), (data, 2 ** 64 - 1), (zeros, LIMIT + 10))}
+        messages = (((data, bits),),
+                    ((data, most + 1), (b"", bits), (data, 2 ** 32), (data, 2 ** 32 + bits), (b"", 2 ** 64 - 1)))
         widths = ((width,), (0, 160, width + 1, 65535))
         shapes = (((old, 0), (old, last)),
-                  ((old[:-1], last), (old + b"\0", 0), (b"", 0), (old[:HEAD], last),
-                   (OTHER[width].to_bytes(2, "little") + old[2:], 0), (old[:2] + b"\0\0\0\0" + old[HEAD:], last),
+                  ((old[:-1], last), (old + b"\0", 0), (b"", 0), (old[:HEAD], last), (index_ref.as_old(old), 0),
+                   (OTHER[width].to_bytes(2, "little") + old[2:], 0), (form_ref.head(width, 0) + old[HEAD:], last),
+                   (form_ref.head(width, 2 ** 32 + bits) + old[HEAD:], last),
                    (old, last + 1), (old, 2 ** 32), (b"", 2 ** 64 - 1)))
         rooms = (((len(old), width // 8), (len(old) + 9, 64)),
                  ((len(old) - 1, width // 8), (len(old), width // 8 - 1), (0, 0), (HEAD, 64), (500, 0)))
-        for broken in itertools.product((False, True), repeat=5):
-            fails = dict(zip((1, 2, 4, 15, 6), broken))
+        for broken in itertools.product((False, True), repeat=4):
+            fails = dict(zip((1, 2, 15, 6), broken))
             expected = next((refusal for refusal, is_broken in fails.items() if is_broken), 0)
-            ways = itertools.product(widths[fails[1]], messages[fails[2], fails[4]], shapes[fails[15]], rooms[fails[6]])
+            ways = itertools.product(widths[fails[1]], messages[fails[2]], shapes[fails[15]], rooms[fails[6]])
             for asked, (given, asked_bits), (index, block), room in ways:
                 lent = [rng.randbytes(size) for size in room]
-                text = given if given is zeros else (product.const(given),)
                 what = "%d bits at %d, %d bytes of index, block %d, to %d and %d" % (
                     asked_bits, asked, len(index), block, *room)
                 runs = [(product.library.simd_reindex, (product.const(index), block), corrected, (index, block))]
@@ -322,7 +322,7 @@ def check_order(calls, rng, records):
                     runs.append((product.library.simd_index, (), fresh, ()))
                 for function, more, loop, same in runs:
                     outputs = [*map(product.Lent, lent), product.LentNumber(NUMBER)]
-                    found = product.call(function, asked, *text, asked_bits, *more, *outputs)
+                    found = product.call(function, asked, product.const(given), asked_bits, *more, *outputs)
                     after = expected, *lent, NUMBER
                     if not expected:
                         *made, blocks = loop(width, data, bits, *same)

@@ -10,6 +10,7 @@ and of the whole message, and the blocks reported.
 import sys
 
 from tally import Tally, bits_of, message, random_arguments
+import form_ref
 import product
 import simd_ref as ref
 
@@ -35,7 +36,7 @@ def cut(rng, bits):
 
 def in_pieces(width, data, sizes):
     """(refusal, digest, blocks reported) of a message fed in pieces."""
-    refusal, form = product.open(width, bytes(6 + 2 * ref.block_bytes(width)))
+    refusal, form = product.open(width, bytes(form_ref.size(width)))
     total, at = 0, 0
     for size in sizes:
         if not refusal:

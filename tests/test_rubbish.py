@@ -20,6 +20,7 @@ import sys
 from tally import HERE, Tally, bits_of, message, random_arguments
 from test_random import cut, length
 import door_ref
+import form_ref
 import hmac_ref
 import index_ref
 import product
@@ -29,7 +30,7 @@ import tapes
 
 COUNTS = (0, 1, 7, 8, 9, 511, 512, 513, 1023, 1024, 1025)
 TAILS = (0, 3, 8, 511)
-LIMIT = 4294967295
+LIMIT = form_ref.BITS_MAX
 NUMBER = 0x0123456789ABCDEF
 CLEAN = "zeros"
 ROOT = os.path.dirname(HERE)
@@ -77,7 +78,7 @@ def some_form(rng, width, length):
     """A form of that length, with any state."""
     size = ref.block_bytes(width)
     tail = message(rng, length % (8 * size)).ljust(size, b"\0")
-    return width.to_bytes(2, "little") + length.to_bytes(4, "little") + rng.randbytes(size) + tail
+    return form_ref.made(width, length, rng.randbytes(size), tail)
 
 
 def each(rng, counts=COUNTS):
@@ -93,7 +94,7 @@ def check_feeds(tally, rng):
     """The open hash after a feed, and the digest of all bits fed."""
     for width, count, piece in each(rng):
         for tail in TAILS:
-            start = product.open(width, bytes(6 + 2 * ref.block_bytes(width)))[1]
+            start = product.open(width, bytes(form_ref.size(width)))[1]
             front = message(rng, tail)
             where = "SIMD-%d, %d bits after %d" % (width, count, tail)
             digest = ref.digest(width, joined(front, tail, piece, count), tail + count)
@@ -110,7 +111,7 @@ def check_feeds(tally, rng):
             for what, dirty in soiled(rng, front, tail):
                 tally.equal(product.feed(start, dirty, tail, NUMBER)[1], form, "%s: tail, %s" % (where, what))
             # From a state that no message reaches, and up to the limit.
-            for fed in (rng.randrange(2 ** 22) * 1024 + tail, LIMIT - count):
+            for fed in (rng.randrange(2 ** 53) * 1024 + tail, LIMIT - count):
                 other = some_form(rng, width, fed)
                 expected = door_ref.feed(other, piece, count, NUMBER)
                 tally.equal(expected[0], 0, where + ": a form is accepted")
@@ -122,7 +123,7 @@ def check_feeds(tally, rng):
 def check_keyed_feeds(tally, rng):
     """The keyed hash after a feed, the tag of all bits fed, and what a check says of it."""
     for width, count, piece in each(rng):
-        size = 2 * (6 + 2 * ref.block_bytes(width))
+        size = form_ref.keyed_size(width)
         for tail in TAILS:
             key, front = rng.randbytes(rng.choice((0, 20, 64, 128, 150))), message(rng, tail)
             where = "SIMD-%d, keyed, %d bits after %d" % (width, count, tail)
@@ -290,29 +291,32 @@ def check_tapes(tally, rng, count):
 # What is refused, as before
 
 def check_stored(tally, rng):
-    """Every bit past the tail of a stored form is refused with 9, whatever is fed, and nothing is written; so in
-    both halves of a keyed form."""
+    """Every bit past the tail of a stored form, an old one too, is refused with 9, whatever is fed, and nothing is
+    written; so in both halves of a keyed form."""
     piece = b"\xff\xff"
     for width in ref.WIDTHS:
         size = ref.block_bytes(width)
-        out = rng.randbytes(64)
-        keyed = product.hmac_open(width, b"a key", bytes(2 * (6 + 2 * size)))[1]
+        out, room = rng.randbytes(64), rng.randbytes(form_ref.size(width))
+        keyed = product.hmac_open(width, b"a key", bytes(form_ref.keyed_size(width)))[1]
         for tail in (*TAILS, 8 * size - 1):
             form = some_form(rng, width, 1024 * 5 + tail)
             fed = product.hmac_feed(keyed, message(rng, tail), tail)[1]
             half = len(fed) // 2
-            tally.equal([product.take(form, out)[0], product.hmac_take(fed, out)[0]], [0, 0], "forms as they are")
+            tally.equal([product.take(form, out)[0], product.restore(form_ref.as_old(form), room)[0],
+                         product.hmac_take(fed, out)[0]], [0, 0, 0], "forms as they are")
             for place in range(tail, 8 * size):
                 what = "SIMD-%d, a tail of %d bits, bit %d" % (width, tail, place)
-                bad = with_bit(form, 6 + size, place)
-                tally.equal(product.feed(bad, piece, 11, NUMBER), (9, bad, NUMBER), what + ": feed")
-                tally.equal(product.take(bad, out, NUMBER), (9, out, NUMBER), what + ": take")
+                bad = with_bit(form, form_ref.HEAD + size, place)
+                for stored in (bad, form_ref.as_old(bad)):
+                    tally.equal(product.feed(stored, piece, 11, NUMBER), (9, stored, NUMBER), what + ": feed")
+                    tally.equal(product.take(stored, out, NUMBER), (9, out, NUMBER), what + ": take")
+                    tally.equal(product.restore(stored, room), (9, room), what + ": restore")
                 # Not every bit of these: they are many, and one rule refuses them.
                 if place % 37 and place not in (tail, 8 * size - 1):
                     continue
                 # The outer hash has no tail.
                 for start in (0, half) if tail == 0 else (0,):
-                    bad = with_bit(fed, start + 6 + size, place)
+                    bad = with_bit(fed, start + form_ref.HEAD + size, place)
                     tally.equal(product.hmac_feed(bad, piece, 11, NUMBER), (9, bad, NUMBER), what + ": keyed feed")
                     tally.equal(product.hmac_take(bad, out, NUMBER), (9, out, NUMBER), what + ": keyed take")
                     tally.equal(product.hmac_check(bad, out, NUMBER), (9, NUMBER), what + ": keyed check")
@@ -321,11 +325,11 @@ def check_stored(tally, rng):
 def check_refusals(tally, rng):
     """Bits past the count hide no refusal and make none; nothing is written."""
     for width in ref.WIDTHS:
-        size = 6 + 2 * ref.block_bytes(width)
+        size = form_ref.size(width)
         key_bits = ref.block_bits(width)
         out = rng.randbytes(64)
         dirty = b"\xff" * 9
-        keyed = product.hmac_open(width, b"a key", bytes(2 * size))[1]
+        keyed = product.hmac_open(width, b"a key", bytes(form_ref.keyed_size(width)))[1]
         for bits in (1, 7, 8, 9, 65, 71):
             what = "SIMD-%d, %d bits" % (width, bits)
             for left, refusal in ((bits, 0), (bits - 1, 4)):
@@ -363,8 +367,8 @@ def check_streams(tally, rng, count):
         key = rng.randbytes(rng.choice((0, 20, 64, 128, 150)))
         for width in ref.WIDTHS:
             where = "message %d of %d bits at %d" % (k, bits, width)
-            size = 6 + 2 * ref.block_bytes(width)
-            form, keyed = product.open(width, bytes(size))[1], product.hmac_open(width, key, bytes(2 * size))[1]
+            form = product.open(width, bytes(form_ref.size(width)))[1]
+            keyed = product.hmac_open(width, key, bytes(form_ref.keyed_size(width)))[1]
             room = 8 * (max(sizes) // 8 + 40)
             buffer, at, refusals, blocks, keyed_blocks = rng.getrandbits(room), 0, set(), 0, 0
             for n in sizes:

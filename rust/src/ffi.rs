@@ -24,6 +24,9 @@ extern "C" {
         blocks: *mut u64,
     ) -> u8;
 
+    pub fn simd_restore(stored: *const u8, stored_len: usize, form: *mut u8, form_len: usize)
+        -> u8;
+
     pub fn simd_hash(
         width: u16,
         message: *const u8,

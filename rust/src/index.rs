@@ -1,4 +1,4 @@
-use crate::{bits_of, block_len, ffi, Digest, Refusal, BITS_MAX, DIGEST_MAX, HEAD};
+use crate::{bits_of, block_len, ffi, Digest, Refusal, DIGEST_MAX, HEAD};
 
 /// The blocks from one state of an index to the next.
 const SPAN: usize = 16;
@@ -6,7 +6,7 @@ const SPAN: usize = 16;
 /// What [`index()`] and [`reindex`] answer.
 #[derive(Clone, Debug, PartialEq, Eq)]
 pub struct Indexed {
-    /// The index of the message: the width (2 bytes) and the bit length (4), both low byte first,
+    /// The index of the message: the width (2 bytes) and the bit length (8), both low byte first,
     /// then the states before blocks 0, 16, 32 and so on, one for every full block so numbered.
     pub index: Vec<u8>,
     /// The digest of the message.
@@ -17,7 +17,8 @@ pub struct Indexed {
 
 /// The bytes of an index.
 fn index_len(width: u16, bits: u64) -> usize {
-    let full = bits as usize / (8 * block_len(width));
+    // Divided first: a message at hand has no more blocks than a usize counts.
+    let full = (bits / (8 * block_len(width) as u64)) as usize;
     HEAD + block_len(width) * full.div_ceil(SPAN)
 }
 
@@ -29,7 +30,7 @@ fn run(
     call: impl FnOnce(&mut [u8], &mut [u8], &mut u64) -> u8,
 ) -> Result<Indexed, Refusal> {
     // A count that is refused asks for no more room than the message.
-    let counted = bits.min(bits_of(message)).min(BITS_MAX);
+    let counted = bits_of(message.len()).map_or(bits, |all| bits.min(all));
     let mut index = vec![0; index_len(width, counted)];
     let (mut bytes, mut blocks) = ([0; DIGEST_MAX], 0);
     Refusal::check(call(&mut index, &mut bytes, &mut blocks))?;
@@ -43,13 +44,13 @@ fn run(
 /// The digest of the first `bits` bits of a message, as [`hash`](crate::hash) has it, and their index,
 /// to be kept beside a long record for [`reindex`].
 ///
-/// Refused: [`Refusal::Width`], [`Refusal::Count`], [`Refusal::Total`].
+/// Refused: [`Refusal::Width`], [`Refusal::Count`].
 ///
 /// ```
 /// let record = vec![0; 10_000];
 /// let indexed = simd::index(256, &record, 80_000)?;
 /// assert_eq!(indexed.digest, simd::hash_bytes(256, &record)?);
-/// assert_eq!(indexed.index.len(), 6 + 10 * 64);
+/// assert_eq!(indexed.index.len(), 10 + 10 * 64);
 /// assert_eq!(indexed.blocks, 158);
 /// # Ok::<(), simd::Refusal>(())
 /// ```
@@ -84,8 +85,9 @@ pub fn index(width: u16, message: &[u8], bits: u64) -> Result<Indexed, Refusal> 
 /// as they are: from any other index of the right shape, and from a number behind the first corrected
 /// block, follows what its states give.
 ///
-/// Refused: [`Refusal::Width`], [`Refusal::Count`], [`Refusal::Total`]; [`Refusal::Index`] where the
-/// index has another size, width or bit length, or the number is above the length block's.
+/// Refused: [`Refusal::Width`], [`Refusal::Count`]; [`Refusal::Index`] where the index has another
+/// size, width or bit length, or the number is above the length block's. An old index, with 4 length
+/// bytes, has another size: it is made again by [`index()`].
 ///
 /// ```
 /// use simd::{index, reindex, Refusal};

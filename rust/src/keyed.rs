@@ -3,13 +3,16 @@ use std::io;
 use std::ptr;
 use std::sync::atomic;
 
-use crate::{bits_of, block_len, ffi, form_len, Digest, Refusal, DIGEST_MAX, FORM_MAX};
+use crate::{
+    bits_of, block_len, ffi, form_len, length_of, message_bits, restored, Digest, Refusal,
+    DIGEST_MAX, FORM_MAX,
+};
 
 const HMAC_FORM_MAX: usize = 2 * FORM_MAX;
 
 /// A keyed hash: HMAC of FIPS 198-1 over the digest of its width.
 ///
-/// A key is 0 to 536,870,911 whole bytes. Pieces of the message are fed as to a
+/// A key is 0 to 2,305,843,009,213,693,951 whole bytes. Pieces of the message are fed as to a
 /// [`Hash`](crate::Hash):
 ///
 /// ```
@@ -131,7 +134,7 @@ impl Hmac {
     ///
     /// Refused: [`Refusal::Total`]. The keyed hash is then unchanged.
     pub fn feed_bytes(&mut self, bytes: &[u8]) -> Result<u64, Refusal> {
-        self.feed(bytes, bits_of(bytes))
+        self.feed(bytes, bits_of(bytes.len())?)
     }
 
     /// The tag of all bits fed. The keyed hash stays open.
@@ -158,22 +161,25 @@ impl Hmac {
         right == 1
     }
 
-    /// The keyed form, 268 or 524 bytes: the stored form of the inner hash, then that of the outer
+    /// The keyed form, 276 or 532 bytes: the stored form of the inner hash, then that of the outer
     /// one. It is as secret as the key.
     pub fn store(&self) -> &[u8] {
         &self.form[..self.len]
     }
 
-    /// The keyed hash of a keyed form. Refused: of the first half and then of the second
-    /// [`Refusal::Form`], [`Refusal::Width`], [`Refusal::Tail`]; then [`Refusal::Hash`].
+    /// The keyed hash of a keyed form; also of an old one, of 268 or 524 bytes, which is stored again
+    /// in today's size. Refused: of the first half and then of the second [`Refusal::Form`],
+    /// [`Refusal::Width`], [`Refusal::Tail`]; then [`Refusal::Hash`].
     pub fn restore(form: &[u8]) -> Result<Hmac, Refusal> {
-        // A form that has a tag is legal.
+        // A form that has a tag is legal, and so are its halves.
         take(form)?;
+        let (inner, outer) = form.split_at(form.len() / 2);
         let mut keyed = Hmac {
             form: [0; HMAC_FORM_MAX],
-            len: form.len(),
+            len: 0,
         };
-        keyed.form[..form.len()].copy_from_slice(form);
+        keyed.len = restored(inner, &mut keyed.form)?;
+        keyed.len += restored(outer, &mut keyed.form[keyed.len..])?;
         Ok(keyed)
     }
 
@@ -183,9 +189,8 @@ impl Hmac {
     }
 
     /// The count of bits fed, without those of the key block.
-    pub fn bits(&self) -> u32 {
-        let inner = [self.form[2], self.form[3], self.form[4], self.form[5]];
-        u32::from_le_bytes(inner) - 8 * block_len(self.width()) as u32
+    pub fn bits(&self) -> u64 {
+        length_of(&self.form) - 8 * block_len(self.width()) as u64
     }
 }
 
@@ -260,5 +265,5 @@ pub fn hmac(width: u16, key: &[u8], message: &[u8], bits: u64) -> Result<Digest,
 ///
 /// Refused: [`Refusal::Width`], [`Refusal::Total`].
 pub fn hmac_bytes(width: u16, key: &[u8], message: &[u8]) -> Result<Digest, Refusal> {
-    hmac(width, key, message, bits_of(message))
+    hmac(width, key, message, message_bits(width, message.len())?)
 }

@@ -1,13 +1,14 @@
 //! SIMD v1.1 digests of bit strings, over the proved library behind `include/simd.h`.
 //!
-//! The names are those of the C header: [`Hash::open`], [`Hash::feed`], [`Hash::take`], [`hash`],
-//! [`Hmac::open`], [`Hmac::feed`], [`Hmac::take`], [`Hmac::check`], [`hmac`], [`expand`], [`steps`],
-//! [`unsteps`], [`compare`], [`tape`], [`page_entry`], [`quote`], [`quote_check`], [`index()`],
-//! [`reindex`]. A width is 224, 256, 384 or 512. A message is bytes and a count of bits; in a byte the
-//! first bit is the highest, and what is past the count, in the last byte used and in the bytes behind
-//! it, is ignored. Elsewhere an open hash is called a hashing context, to feed is to update, and to take
-//! is to finalize; here the hash stays open. A keyed seal is a message authentication code, its bytes
-//! are the tag, and to check a tag is to verify it.
+//! The names are those of the C header: [`Hash::open`], [`Hash::feed`], [`Hash::take`],
+//! [`Hash::restore`], [`hash`], [`Hmac::open`], [`Hmac::feed`], [`Hmac::take`], [`Hmac::check`],
+//! [`hmac`], [`expand`], [`steps`], [`unsteps`], [`compare`], [`tape`], [`page_entry`], [`quote`],
+//! [`quote_check`], [`index()`], [`reindex`]. A width is 224, 256, 384 or 512. A message is bytes and a
+//! count of bits, at most [`BITS_MAX`]; in a byte the first bit is the highest, and what is past the
+//! count, in the last byte used and in the bytes behind it, is ignored. Elsewhere an open hash is called
+//! a hashing context, to feed is to update, and to take is to finalize; here the hash stays open. A
+//! keyed seal is a message authentication code, its bytes are the tag, and to check a tag is to verify
+//! it.
 //!
 //! ```
 //! let digest = simd::hash(256, b"", 0)?;
@@ -54,13 +55,13 @@ pub use page::{page_entry, NUMBER_MAX};
 pub use quote::{quote, quote_check};
 pub use refusal::{Refusal, TapeRefusal};
 
-/// The most bits of a message; of a keyed hash, of its key, and of its message with one block for the
-/// key.
-pub const BITS_MAX: u64 = 4_294_967_295;
+/// The most bits of a message, 2^64 - 1; of a keyed hash, of its key, and of its message with one
+/// block for the key.
+pub const BITS_MAX: u64 = u64::MAX;
 
 /// The bytes that a stored form and an index begin with: width and bit length.
-const HEAD: usize = 6;
-const FORM_MAX: usize = 262;
+const HEAD: usize = 10;
+const FORM_MAX: usize = 266;
 const DIGEST_MAX: usize = 64;
 const BLOCK_MAX: usize = 128;
 const WORDS_MAX: usize = 256;
@@ -83,9 +84,19 @@ fn form_len(width: u16) -> usize {
     HEAD + 2 * block_len(width)
 }
 
-/// The bits of a slice; more than a message may have stays more.
-fn bits_of(bytes: &[u8]) -> u64 {
-    (bytes.len() as u64).saturating_mul(8)
+/// The bits of so many bytes. Refused: [`Refusal::Total`] where they are more than a count can be.
+fn bits_of(len: usize) -> Result<u64, Refusal> {
+    (len as u64).checked_mul(8).ok_or(Refusal::Total)
+}
+
+/// The same of a whole message at a width, which is refused first.
+fn message_bits(width: u16, len: usize) -> Result<u64, Refusal> {
+    bits_of(len).or_else(|refusal| Hash::open(width).and(Err(refusal)))
+}
+
+/// The bit length in a stored form.
+fn length_of(form: &[u8]) -> u64 {
+    u64::from_le_bytes(form[2..HEAD].try_into().expect("a length has 8 bytes"))
 }
 
 /// A digest.
@@ -209,6 +220,22 @@ impl fmt::Debug for Digest {
 /// # Ok::<(), simd::Refusal>(())
 /// ```
 ///
+/// So does a form that was stored while the length had 4 bytes in place of 8; it is stored again in
+/// today's size:
+///
+/// ```
+/// let mut hash = simd::Hash::open(256)?;
+/// hash.feed_bytes(b"a read")?;
+/// let stored = hash.store();
+/// let old = [&stored[..6], &stored[10..]].concat();
+///
+/// let mut restored = simd::Hash::restore(&old)?;
+/// assert_eq!(restored.store(), stored);
+/// restored.feed_bytes(b"ing")?;
+/// assert_eq!(restored.take().digest, simd::hash_bytes(256, b"a reading")?);
+/// # Ok::<(), simd::Refusal>(())
+/// ```
+///
 /// As an [`io::Write`] it takes whole bytes:
 ///
 /// ```
@@ -232,24 +259,13 @@ pub struct Taken {
     pub blocks: u64,
 }
 
-fn take(form: &[u8]) -> Result<Taken, Refusal> {
-    let (mut bytes, mut blocks) = ([0; DIGEST_MAX], 0);
+/// Writes the form of today's size of a stored form, which may be an old one; answers its length.
+fn restored(stored: &[u8], form: &mut [u8]) -> Result<usize, Refusal> {
     // SAFETY: each pointer and length are those of one slice, and nothing overlaps.
-    let number = unsafe {
-        ffi::simd_take(
-            form.as_ptr(),
-            form.len(),
-            bytes.as_mut_ptr(),
-            bytes.len(),
-            &mut blocks,
-        )
-    };
+    let number =
+        unsafe { ffi::simd_restore(stored.as_ptr(), stored.len(), form.as_mut_ptr(), form.len()) };
     Refusal::check(number)?;
-    let width = u16::from_le_bytes([form[0], form[1]]);
-    Ok(Taken {
-        digest: Digest::new(bytes, width),
-        blocks,
-    })
+    Ok(form_len(u16::from_le_bytes([stored[0], stored[1]])))
 }
 
 impl Hash {
@@ -290,29 +306,42 @@ impl Hash {
     ///
     /// Refused: [`Refusal::Total`]. The hash is then unchanged.
     pub fn feed_bytes(&mut self, bytes: &[u8]) -> Result<u64, Refusal> {
-        self.feed(bytes, bits_of(bytes))
+        self.feed(bytes, bits_of(bytes.len())?)
     }
 
     /// The digest of all bits fed. The hash stays open.
     pub fn take(&self) -> Taken {
-        take(self.store()).expect("a hash holds a legal form")
+        let (mut bytes, mut blocks) = ([0; DIGEST_MAX], 0);
+        // SAFETY: each pointer and length are those of one slice, and nothing overlaps.
+        let number = unsafe {
+            ffi::simd_take(
+                self.form.as_ptr(),
+                self.len,
+                bytes.as_mut_ptr(),
+                bytes.len(),
+                &mut blocks,
+            )
+        };
+        Refusal::check(number).expect("a hash holds a legal form");
+        Taken {
+            digest: Digest::new(bytes, self.width()),
+            blocks,
+        }
     }
 
-    /// The stored form, 134 or 262 bytes.
+    /// The stored form, 138 or 266 bytes.
     pub fn store(&self) -> &[u8] {
         &self.form[..self.len]
     }
 
-    /// The hash of a stored form. Refused: [`Refusal::Form`], [`Refusal::Width`],
-    /// [`Refusal::Tail`].
+    /// The hash of a stored form; also of an old one, of 134 or 262 bytes, which is stored again in
+    /// today's size. Refused: [`Refusal::Form`], [`Refusal::Width`], [`Refusal::Tail`].
     pub fn restore(form: &[u8]) -> Result<Hash, Refusal> {
-        // A form that has a digest is legal.
-        take(form)?;
         let mut hash = Hash {
             form: [0; FORM_MAX],
-            len: form.len(),
+            len: 0,
         };
-        hash.form[..form.len()].copy_from_slice(form);
+        hash.len = restored(form, &mut hash.form)?;
         Ok(hash)
     }
 
@@ -322,8 +351,8 @@ impl Hash {
     }
 
     /// The count of bits fed.
-    pub fn bits(&self) -> u32 {
-        u32::from_le_bytes([self.form[2], self.form[3], self.form[4], self.form[5]])
+    pub fn bits(&self) -> u64 {
+        length_of(&self.form)
     }
 }
 
@@ -351,7 +380,7 @@ impl io::Write for Hash {
 
 /// The digest of the first `bits` bits of a message; the others are ignored.
 ///
-/// Refused: [`Refusal::Width`], [`Refusal::Count`], [`Refusal::Total`].
+/// Refused: [`Refusal::Width`], [`Refusal::Count`].
 ///
 /// ```
 /// use simd::{hash, Refusal};
@@ -383,7 +412,7 @@ pub fn hash(width: u16, message: &[u8], bits: u64) -> Result<Digest, Refusal> {
 ///
 /// Refused: [`Refusal::Width`], [`Refusal::Total`].
 pub fn hash_bytes(width: u16, message: &[u8]) -> Result<Digest, Refusal> {
-    hash(width, message, bits_of(message))
+    hash(width, message, message_bits(width, message.len())?)
 }
 
 /// The expanded message of one block, 32 rows of 4 or 8 words, row after row; `last` tells the
@@ -478,7 +507,7 @@ pub enum Verdict {
 /// ignored.
 ///
 /// Refused: [`Refusal::Width`]; then, for the first message and after it for the second,
-/// [`Refusal::Count`], [`Refusal::Total`].
+/// [`Refusal::Count`].
 ///
 /// ```
 /// use simd::{compare, Verdict};
@@ -551,5 +580,25 @@ pub fn tape(tape: &[u8], out: &mut [u8]) -> Result<u64, TapeRefusal> {
             place,
             count,
         }),
+    }
+}
+
+#[cfg(test)]
+mod tests {
+    use super::*;
+
+    /// No machine has a slice of 2^61 bytes: what is refused of one is tried by its length.
+    #[test]
+    fn more_bits_than_a_count_can_be() {
+        let most = (1 << 61) - 1;
+        assert_eq!(bits_of(most), Ok(BITS_MAX - 7));
+        assert_eq!(message_bits(256, most), Ok(BITS_MAX - 7));
+        for len in [most + 1, most + 2, 1 << 62, usize::MAX] {
+            assert_eq!(bits_of(len), Err(Refusal::Total));
+            for width in [224, 256, 384, 512] {
+                assert_eq!(message_bits(width, len), Err(Refusal::Total));
+                assert_eq!(message_bits(width + 1, len), Err(Refusal::Width));
+            }
+        }
     }
 }

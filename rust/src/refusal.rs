@@ -15,7 +15,8 @@ pub enum Refusal {
     /// callers compile.
     Spare = 3,
     /// The message would have more than [`BITS_MAX`](crate::BITS_MAX) bits; of a keyed hash, the key,
-    /// or the message with one key block.
+    /// or the message with one key block. A count has 64 bits, so that no message alone, given whole
+    /// with its count, is refused so.
     Total = 4,
     /// Two stored forms that no keyed hash holds: of unequal widths, the inner one shorter than a key
     /// block, or the outer one not exactly so long.
@@ -25,7 +26,8 @@ pub enum Refusal {
     /// A block or state has another size than the width's, or a digest another length than its width
     /// asks.
     Block = 7,
-    /// A stored form has another size than its width's.
+    /// A stored form has another size than the two of its width: 138 or 266 bytes, and 134 or 262 of
+    /// an old one.
     Form = 8,
     /// A bit of a stored form is set past its tail.
     Tail = 9,
@@ -82,11 +84,11 @@ impl fmt::Display for Refusal {
             Refusal::Width => "the width is none of 224, 256, 384 and 512",
             Refusal::Count => "more bits than the bytes have",
             Refusal::Spare => "retired: bits past the count are ignored",
-            Refusal::Total => "more than 4294967295 bits in all",
+            Refusal::Total => "more than 18446744073709551615 bits in all",
             Refusal::Hash => "the open or keyed hash is none",
             Refusal::Output => "the output is too short",
             Refusal::Block => "the block, state or digest has not the width's size",
-            Refusal::Form => "the stored form has not its width's size",
+            Refusal::Form => "the stored form has neither of its width's sizes",
             Refusal::Tail => "a bit of the stored form is set past its tail",
             Refusal::Command => "no such command on the tape",
             Refusal::End => "the tape ends in a command or before STOP",

@@ -1,5 +1,6 @@
 //! The wrapper against the digests of appendix A, the formula of keyed seals, the lines of a page, the
-//! reckoning of quotes, and the states that an index keeps; what is past a count; and its refusals.
+//! reckoning of quotes, and the states that an index keeps; what is past a count; old stored forms,
+//! and lengths that 32 bits do not hold; and its refusals.
 
 use std::fs;
 use std::io::Write;
@@ -7,7 +8,7 @@ use std::path::Path;
 
 use simd::{
     compare, expand, hash, hash_bytes, hmac, hmac_bytes, index, page_entry, quote, quote_check,
-    reindex, steps, tape, Hash, Hmac, Indexed, Refusal, Verdict, NUMBER_MAX,
+    reindex, steps, tape, Hash, Hmac, Indexed, Refusal, Verdict, BITS_MAX, NUMBER_MAX,
 };
 
 const WIDTHS: [u16; 4] = [224, 256, 384, 512];
@@ -87,7 +88,7 @@ fn pieces_with_store_and_restore_between() {
                 open = Hash::restore(open.store()).unwrap();
                 at += count;
             }
-            assert_eq!(u64::from(open.bits()), m.bits);
+            assert_eq!(open.bits(), m.bits);
             let taken = open.take();
             assert_eq!(taken.digest.to_string(), m.digest);
             let block_bits = if m.width > 256 { 1024 } else { 512 };
@@ -110,16 +111,214 @@ fn writing_is_feeding_whole_bytes() {
 
 #[test]
 fn writing_past_the_limit_is_an_error() {
-    let mut form = Hash::open(256).unwrap().store().to_vec();
-    form[2..6].copy_from_slice(&(u32::MAX - 8).to_le_bytes());
-    let mut open = Hash::restore(&form).unwrap();
-    assert_eq!(open.write(&[1]).unwrap(), 1);
-    let before = open.clone();
-    let error = open.write(&[1]).unwrap_err();
-    let inner = error.into_inner().unwrap();
-    assert_eq!(inner.downcast_ref::<Refusal>(), Some(&Refusal::Total));
-    assert_eq!(open, before);
-    assert_eq!(open.write(&[]).unwrap(), 0);
+    for width in WIDTHS {
+        let mut open = with_length(width, BITS_MAX - 8);
+        assert_eq!(open.write(&[1]).unwrap(), 1);
+        assert_eq!(open.bits(), BITS_MAX);
+        let before = open.clone();
+        let error = open.write(&[1]).unwrap_err();
+        let inner = error.into_inner().unwrap();
+        assert_eq!(inner.downcast_ref::<Refusal>(), Some(&Refusal::Total));
+        assert_eq!(open.feed(&[0x80], 1), Err(Refusal::Total));
+        assert_eq!(open.feed(&[0x80], 9), Err(Refusal::Count));
+        assert_eq!(open, before);
+        assert_eq!(open.write(&[]).unwrap(), 0);
+
+        let mut open = with_length(width, BITS_MAX - 1);
+        let before = open.clone();
+        assert_eq!(open.feed(&[0xc0], 2), Err(Refusal::Total));
+        assert_eq!(open, before);
+        assert!(open.feed(&[0xc0], 1).is_ok());
+        assert_eq!(open.bits(), BITS_MAX);
+    }
+}
+
+/// The stored form of the empty hash with another length, and so with zeros for a tail.
+fn form_with_length(width: u16, bits: u64) -> Vec<u8> {
+    let mut form = Hash::open(width).unwrap().store().to_vec();
+    form[2..10].copy_from_slice(&bits.to_le_bytes());
+    form
+}
+
+fn with_length(width: u16, bits: u64) -> Hash {
+    Hash::restore(&form_with_length(width, bits)).unwrap()
+}
+
+/// A stored form as it was while its length had 4 bytes.
+fn old_form(form: &[u8]) -> Vec<u8> {
+    assert_eq!(form[6..10], [0; 4]);
+    [&form[..6], &form[10..]].concat()
+}
+
+fn old_keyed_form(form: &[u8]) -> Vec<u8> {
+    let (inner, outer) = form.split_at(form.len() / 2);
+    [old_form(inner), old_form(outer)].concat()
+}
+
+/// (length, zero bits fed, blocks compressed by that, the first digits of the digest at each width) by
+/// tests/reference/simd_ref.py, from the starting state and a tail of zeros.
+const LENGTHS: [(u64, u64, u64, [&str; 4]); 7] = [
+    (
+        (1 << 32) - 1,
+        0,
+        0,
+        [
+            "5ff38a2dacb4c061",
+            "8fa70d6eb16d2169",
+            "6964aab7e2d4e7ef",
+            "a7ffd20202598bce",
+        ],
+    ),
+    (
+        (1 << 32) - 1,
+        1,
+        1,
+        [
+            "ee3e6002618efbe3",
+            "10826dcd2666bbad",
+            "a1fc4867e254775d",
+            "1328c109a27ee981",
+        ],
+    ),
+    (
+        (1 << 32) - 1,
+        2,
+        1,
+        [
+            "7b9c4c5f81ccfe9c",
+            "27455ff0a71e773b",
+            "2faf5eac33399d41",
+            "adbaf77662eae171",
+        ],
+    ),
+    (
+        1 << 32,
+        0,
+        0,
+        [
+            "ce8907d7b3e3bfc5",
+            "0f5dbfa6ca4f139d",
+            "094617a30981e06c",
+            "1c8e4aff9bcc83d3",
+        ],
+    ),
+    (
+        (1 << 32) + 1,
+        0,
+        0,
+        [
+            "afa51c043bc12bda",
+            "fc98ba69a5f02121",
+            "c9f786646b155e1b",
+            "396a7cb62a960735",
+        ],
+    ),
+    (
+        1 << 63,
+        7,
+        0,
+        [
+            "c5de0d3ed26b95ba",
+            "c700c687a9c41883",
+            "088e5e4cc7c2fedc",
+            "a12b19484d319faf",
+        ],
+    ),
+    (
+        BITS_MAX - 8,
+        8,
+        0,
+        [
+            "6783e7aded0efc41",
+            "566bff666c43516e",
+            "87854dd28482b135",
+            "588bd7005a175eb8",
+        ],
+    ),
+];
+
+/// Lengths around and above what 32 bits hold, by stored forms; where an old form can have the length,
+/// from both.
+#[test]
+fn lengths_above_32_bits() {
+    for (length, more, blocks, digits) in LENGTHS {
+        for (width, digits) in WIDTHS.into_iter().zip(digits) {
+            let form = form_with_length(width, length);
+            let mut forms = vec![form.clone()];
+            if length < 1 << 32 {
+                forms.push(old_form(&form));
+            }
+            for given in forms {
+                let mut open = Hash::restore(&given).unwrap();
+                assert_eq!((open.width(), open.bits()), (width, length));
+                assert_eq!(open.store(), form);
+                assert_eq!(open.feed(&[0], more), Ok(blocks));
+                assert_eq!(open.bits(), length + more);
+                assert_eq!(format!("{:.16}", open.take().digest), digits);
+                let again = Hash::restore(open.store()).unwrap();
+                assert_eq!(again, open);
+                assert!(format!("{open:?}").contains(&(length + more).to_string()));
+            }
+        }
+    }
+}
+
+/// The digests of appendix A, by hashes that went through old forms between their pieces.
+#[test]
+fn old_forms_go_on_in_todays_size() {
+    for m in messages() {
+        let (old, today) = if m.width > 256 {
+            (262, 266)
+        } else {
+            (134, 138)
+        };
+        for size in [1, 3, 500, 513] {
+            let mut open = Hash::open(m.width).unwrap();
+            let mut at = 0;
+            while at < m.bits {
+                let count = size.min(m.bits - at);
+                open.feed(&piece_of(&m.data, at, count), count).unwrap();
+                let stored = old_form(open.store());
+                assert_eq!(stored.len(), old);
+                let restored = Hash::restore(&stored).unwrap();
+                assert_eq!(restored.store().len(), today);
+                assert_eq!(restored, open);
+                open = restored;
+                at += count;
+            }
+            assert_eq!(open.bits(), m.bits);
+            assert_eq!(open.take().digest.to_string(), m.digest);
+        }
+    }
+}
+
+/// Of all sizes a width spares two; and the width comes first.
+#[test]
+fn sizes_of_stored_forms() {
+    for (width, sizes) in [
+        (224, [134, 138]),
+        (256, [134, 138]),
+        (384, [262, 266]),
+        (512, [262, 266]),
+    ] {
+        for len in 0..600 {
+            let mut form = vec![0; len];
+            let restore = |form: &[u8]| Hash::restore(form).map(|open| open.store().len());
+            if len < 2 {
+                assert_eq!(restore(&form), Err(Refusal::Form));
+                continue;
+            }
+            form[..2].copy_from_slice(&u16::to_le_bytes(width + 1));
+            assert_eq!(restore(&form), Err(Refusal::Width));
+            form[..2].copy_from_slice(&width.to_le_bytes());
+            let expected = if sizes.contains(&len) {
+                Ok(sizes[1])
+            } else {
+                Err(Refusal::Form)
+            };
+            assert_eq!(restore(&form), expected);
+        }
+    }
 }
 
 #[test]
@@ -129,9 +328,9 @@ fn refusals() {
     assert_eq!(Hash::restore(&[0, 0]).unwrap_err(), Refusal::Width);
 
     let mut form = Hash::open(512).unwrap().store().to_vec();
-    assert_eq!(form.len(), 262);
-    assert_eq!(Hash::restore(&form[..261]).unwrap_err(), Refusal::Form);
-    form[261] = 1;
+    assert_eq!(form.len(), 266);
+    assert_eq!(Hash::restore(&form[..265]).unwrap_err(), Refusal::Form);
+    form[265] = 1;
     assert_eq!(Hash::restore(&form).unwrap_err(), Refusal::Tail);
     form.push(0);
     assert_eq!(Hash::restore(&form).unwrap_err(), Refusal::Form);
@@ -214,11 +413,14 @@ fn keys_and_pieces_with_store_and_restore_between() {
                 while at < bits {
                     let count = size.min(bits - at);
                     blocks += keyed.feed(&piece_of(&message, at, count), count).unwrap();
+                    let old = Hmac::restore(&old_keyed_form(keyed.store())).unwrap();
+                    assert_eq!(old.store(), keyed.store());
+                    assert_eq!(old.take(), keyed.take());
                     keyed = Hmac::restore(keyed.store()).unwrap();
                     at += count;
                 }
                 assert_eq!(keyed.width(), width);
-                assert_eq!(u64::from(keyed.bits()), bits);
+                assert_eq!(keyed.bits(), bits);
                 let taken = keyed.take();
                 assert_eq!(taken.tag.to_vec(), expected);
                 assert_eq!(blocks + taken.blocks, bits.div_ceil(block_bits) + 3);
@@ -275,10 +477,10 @@ fn writing_is_feeding_a_keyed_hash() {
 fn writing_past_the_limit_with_the_key_block_is_an_error() {
     for (width, block_bits) in [(224, 512), (512, 1024)] {
         let mut form = Hmac::open(width, b"a key").unwrap().store().to_vec();
-        form[2..6].copy_from_slice(&(u32::MAX - 8).to_le_bytes());
+        form[2..10].copy_from_slice(&(BITS_MAX - 8).to_le_bytes());
         let mut keyed = Hmac::restore(&form).unwrap();
         assert_eq!(keyed.write(&[1]).unwrap(), 1);
-        assert_eq!(keyed.bits(), u32::MAX - block_bits);
+        assert_eq!(keyed.bits(), BITS_MAX - block_bits);
         let before = keyed.store().to_vec();
         let error = keyed.write(&[1]).unwrap_err();
         let inner = error.into_inner().unwrap();
@@ -286,6 +488,55 @@ fn writing_past_the_limit_with_the_key_block_is_an_error() {
         assert_eq!(keyed.feed(&[0x80], 1), Err(Refusal::Total));
         assert_eq!(keyed.store(), before);
         assert_eq!(keyed.write(&[]).unwrap(), 0);
+    }
+}
+
+/// A keyed hash fed on from an old form. Its tag is that of the formula.
+#[test]
+fn old_keyed_forms_go_on_in_todays_size() {
+    for (width, old, today) in [
+        (224, 268, 276),
+        (256, 268, 276),
+        (384, 524, 532),
+        (512, 524, 532),
+    ] {
+        for first in [0, 3, 511, 512, 1024, 1025] {
+            let data: Vec<u8> = (0..300).map(|k| (k * 7) as u8).collect();
+            let mut keyed = Hmac::open(width, b"a key").unwrap();
+            keyed.feed(&data, first).unwrap();
+            let stored = old_keyed_form(keyed.store());
+            assert_eq!(stored.len(), old);
+            let mut restored = Hmac::restore(&stored).unwrap();
+            assert_eq!(restored.store().len(), today);
+            assert_eq!(restored.store(), keyed.store());
+            assert_eq!((restored.width(), restored.bits()), (width, first));
+            let rest = 2400 - first;
+            restored.feed(&piece_of(&data, first, rest), rest).unwrap();
+            let tag = formula(width, b"a key", &data, 2400);
+            assert_eq!(restored.take().tag.to_vec(), tag);
+            assert!(restored.check(&tag));
+            assert_eq!(restored.store().len(), today);
+        }
+    }
+}
+
+/// Inner hashes longer than 32 bits hold: the tag is what the two hashes give, one by one.
+#[test]
+fn keyed_lengths_above_32_bits() {
+    for width in WIDTHS {
+        for length in [(1 << 32) - 1, 1 << 32, (1 << 32) + 1, 1 << 40, BITS_MAX] {
+            let mut form = Hmac::open(width, b"a key").unwrap().store().to_vec();
+            form[2..10].copy_from_slice(&length.to_le_bytes());
+            let keyed = Hmac::restore(&form).unwrap();
+            assert_eq!(keyed.bits(), length - block_bits(width));
+            let (inner, outer) = form.split_at(form.len() / 2);
+            let inner = Hash::restore(inner).unwrap().take().digest;
+            let mut outer = Hash::restore(outer).unwrap();
+            outer.feed_bytes(inner.as_bytes()).unwrap();
+            let tag = outer.take().digest;
+            assert_eq!(keyed.take().tag, tag);
+            assert!(keyed.check(tag.as_bytes()));
+        }
     }
 }
 
@@ -300,33 +551,56 @@ fn refusals_of_keyed_hashes() {
     assert_eq!(refused(&[0; 3]), Refusal::Form);
     assert_eq!(refused(&[0; 4]), Refusal::Width);
 
-    for (width, other, len) in [
-        (224, 256, 268),
-        (256, 224, 268),
-        (384, 512, 524),
-        (512, 384, 524),
+    for (width, other, len, old_len) in [
+        (224, 256, 276, 268),
+        (256, 224, 276, 268),
+        (384, 512, 532, 524),
+        (512, 384, 532, 524),
     ] {
         let mut keyed = Hmac::open(width, b"a key").unwrap();
         keyed.feed_bytes(b"a reading").unwrap();
         let form = keyed.store().to_vec();
         assert_eq!(form.len(), len);
-        assert_eq!(refused(&form[..len - 1]), Refusal::Form);
-        assert_eq!(refused(&form[..len / 2]), Refusal::Form);
-        assert_eq!(refused(&[&form[..], &[0]].concat()), Refusal::Form);
-        assert_eq!(refused(&[0; 600]), Refusal::Width);
-        for last in [len / 2 - 1, len - 1] {
-            let mut damaged = form.clone();
-            damaged[last] = 1;
-            assert_eq!(refused(&damaged), Refusal::Tail);
+        let foreign = Hmac::open(other, b"a key").unwrap().store().to_vec();
+        let short = Hash::open(width).unwrap().store().to_vec();
+        let today = (form.clone(), foreign.clone(), short.clone());
+        let old = (
+            old_keyed_form(&form),
+            old_keyed_form(&foreign),
+            old_form(&short),
+        );
+        assert_eq!(old.0.len(), old_len);
+        for (form, foreign, short) in [&today, &old] {
+            let len = form.len();
+            assert!(Hmac::restore(form).is_ok());
+            assert_eq!(refused(&form[..len - 1]), Refusal::Form);
+            assert_eq!(refused(&form[..len / 2]), Refusal::Form);
+            assert_eq!(refused(&[&form[..], &[0]].concat()), Refusal::Form);
+            assert_eq!(refused(&[0; 600]), Refusal::Width);
+            for last in [len / 2 - 1, len - 1] {
+                let mut damaged = form.clone();
+                damaged[last] = 1;
+                assert_eq!(refused(&damaged), Refusal::Tail);
+                damaged[len / 2] ^= 1;
+                let first = if last == len - 1 {
+                    Refusal::Width
+                } else {
+                    Refusal::Tail
+                };
+                assert_eq!(refused(&damaged), first);
+            }
+            let (inner, outer) = form.split_at(len / 2);
+            assert_eq!(refused(&[outer, inner].concat()), Refusal::Hash);
+            let (_, foreign) = foreign.split_at(len / 2);
+            assert_eq!(refused(&[inner, foreign].concat()), Refusal::Hash);
+            assert_eq!(refused(&[short, outer].concat()), Refusal::Hash);
+            assert_eq!(refused(&[inner, short].concat()), Refusal::Hash);
         }
-        let (inner, outer) = form.split_at(len / 2);
-        assert_eq!(refused(&[outer, inner].concat()), Refusal::Hash);
-        let foreign = Hmac::open(other, b"a key").unwrap();
-        let (_, foreign) = foreign.store().split_at(len / 2);
-        assert_eq!(refused(&[inner, foreign].concat()), Refusal::Hash);
-        let short = Hash::open(width).unwrap();
-        assert_eq!(refused(&[short.store(), outer].concat()), Refusal::Hash);
-        assert_eq!(refused(&[inner, short.store()].concat()), Refusal::Hash);
+        // One half old and the other not: neither has its size then.
+        for (front, back) in [(&today.0, &old.0), (&old.0, &today.0)] {
+            let mixed = [&front[..front.len() / 2], &back[back.len() / 2..]].concat();
+            assert_eq!(refused(&mixed), Refusal::Form);
+        }
 
         assert_eq!(keyed.feed(&[0xff], 9), Err(Refusal::Count));
         assert_eq!(keyed.store(), form);
@@ -476,7 +750,7 @@ fn part_ignores_bits_past_the_count() {
     }
 }
 
-/// Each bit past the tail of a stored form, also in either half of a keyed one.
+/// Each bit past the tail of a stored form, also in either half of a keyed one, and in old forms.
 #[test]
 fn bits_past_a_tail_are_still_refused() {
     for width in WIDTHS {
@@ -485,20 +759,25 @@ fn bits_past_a_tail_are_still_refused() {
             open.feed(&[0xa5; 64], tail).unwrap();
             let mut keyed = Hmac::open(width, b"a key").unwrap();
             keyed.feed(&[0xa5; 64], tail).unwrap();
-            let (form, both) = (open.store(), keyed.store());
-            let (size, half) = ((form.len() - 6) / 2, form.len());
-            assert!(Hash::restore(form).is_ok() && Hmac::restore(both).is_ok());
-            for place in tail as usize..8 * size {
-                let (at, bit) = (6 + size + place / 8, 0x80 >> (place % 8));
-                let mut damaged = form.to_vec();
-                damaged[at] |= bit;
-                assert_eq!(Hash::restore(&damaged).unwrap_err(), Refusal::Tail);
-                let mut damaged = both.to_vec();
-                damaged[at] |= bit;
-                assert_eq!(Hmac::restore(&damaged).unwrap_err(), Refusal::Tail);
-                let mut damaged = both.to_vec();
-                damaged[half + at] |= bit;
-                assert_eq!(Hmac::restore(&damaged).unwrap_err(), Refusal::Tail);
+            let size = block_bits(width) as usize / 8;
+            for (form, both) in [
+                (open.store().to_vec(), keyed.store().to_vec()),
+                (old_form(open.store()), old_keyed_form(keyed.store())),
+            ] {
+                let half = form.len();
+                assert!(Hash::restore(&form).is_ok() && Hmac::restore(&both).is_ok());
+                for place in tail as usize..8 * size {
+                    let (at, bit) = (half - size + place / 8, 0x80 >> (place % 8));
+                    let mut damaged = form.clone();
+                    damaged[at] |= bit;
+                    assert_eq!(Hash::restore(&damaged).unwrap_err(), Refusal::Tail);
+                    let mut damaged = both.clone();
+                    damaged[at] |= bit;
+                    assert_eq!(Hmac::restore(&damaged).unwrap_err(), Refusal::Tail);
+                    let mut damaged = both.clone();
+                    damaged[half + at] |= bit;
+                    assert_eq!(Hmac::restore(&damaged).unwrap_err(), Refusal::Tail);
+                }
             }
         }
     }
@@ -725,7 +1004,7 @@ fn block_bits(width: u16) -> u64 {
 /// The place of a state in an index.
 fn state_at(width: u16, place: u64) -> std::ops::Range<usize> {
     let size = block_bits(width) as usize / 8;
-    let at = 6 + size * place as usize;
+    let at = 10 + size * place as usize;
     at..at + size
 }
 
@@ -733,11 +1012,7 @@ fn state_at(width: u16, place: u64) -> std::ops::Range<usize> {
 fn by_states(width: u16, data: &[u8], bits: u64) -> Indexed {
     let size = block_bits(width);
     let mut open = Hash::open(width).unwrap();
-    let mut kept = [
-        width.to_le_bytes().to_vec(),
-        (bits as u32).to_le_bytes().to_vec(),
-    ]
-    .concat();
+    let mut kept = [width.to_le_bytes().to_vec(), bits.to_le_bytes().to_vec()].concat();
     for number in 0..bits / size {
         if number % 16 == 0 {
             kept.extend(&open.store()[state_at(width, 0)]);
@@ -789,7 +1064,7 @@ fn index_of_the_reference() {
             "b1fee4b433cea2bbf912da12131fc6e126c80f2d79b0f235477a8b8a0a5ec476",
         ),
     ] {
-        assert_eq!(found.index.len(), 646);
+        assert_eq!(found.index.len(), 650);
         assert_eq!(found.blocks, blocks);
         assert_eq!(found.digest.to_string(), digest);
     }
@@ -873,11 +1148,14 @@ fn refusals_of_indexes() {
             wrong.truncate(len);
             assert_eq!(refused(width, bits, &wrong, 0), Err(Refusal::Index));
         }
-        for place in 0..6 {
+        for place in 0..10 {
             let mut wrong = old.clone();
             wrong[place] ^= 1;
             assert_eq!(refused(width, bits, &wrong, 0), Err(Refusal::Index));
         }
+        // An index with 4 length bytes.
+        let short = [&old[..6], &old[10..]].concat();
+        assert_eq!(refused(width, bits, &short, 0), Err(Refusal::Index));
         assert_eq!(refused(width, bits - 1, &old, 0), Err(Refusal::Index));
         for count in [8 * data.len() as u64 + 1, 1 << 32, u64::MAX] {
             assert_eq!(index(width, &data, count), Err(Refusal::Count));

@@ -94,6 +94,36 @@ fn files_and_standard_input_at_each_width() {
     }
 }
 
+/// A file of zeros that has more bits than 32 bits count, all of it a hole; the digests are those of
+/// tests/baseline/portable.c.
+#[test]
+fn a_file_above_half_a_gigabyte() {
+    let folder = Folder::new("long");
+    folder.file("zeros", b"");
+    fs::OpenOptions::new()
+        .write(true)
+        .open(folder.0.join("zeros"))
+        .unwrap()
+        .set_len((1 << 29) + 1)
+        .unwrap();
+    for (width, digest) in [
+        (
+            256,
+            "ebcb7624784918c56e1049782f311108925d355e82eb4db2e8870e89118e301a",
+        ),
+        (
+            512,
+            "6cc80252b36a41d71a7956c91d1e4f7f9a42c7151ac2064b44e369541117140b\
+             2f3b0948b02a04e73015adba06f80692821a3aa8c6ccc62effd44cbbb2a14cea",
+        ),
+    ] {
+        assert_eq!(
+            folder.run(&[&format!("--width={width}"), "zeros"], b""),
+            good(format!("{digest}  zeros\n"))
+        );
+    }
+}
+
 #[test]
 fn styles() {
     let folder = Folder::new("styles");

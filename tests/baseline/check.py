@@ -4,7 +4,7 @@
     check.py [COUNT]
 
 Builds both with $CC (or cc) and compares COUNT random blocks of each family,
-and the digests of appendix A and of random messages."""
+the digests of appendix A and of random messages, and runs over some blocks."""
 
 import ctypes
 import os
@@ -97,12 +97,33 @@ def check_messages(lib, rng):
     return failures
 
 
+def check_runs(lib, rng):
+    """Some blocks from any state on, and the states kept of them; nothing behind those is written."""
+    failures = 0
+    for width in (256, 512):
+        size, large = ref.block_bytes(width), int(width > 256)
+        for count in (0, 1, 15, 16, 17, 33):
+            start, data = rng.randbytes(size), rng.randbytes(size * count)
+            states = [ref.state_from_bytes(width, start)]
+            for k in range(count):
+                states.append(ref.compress(width, False, states[-1], data[size * k:size * (k + 1)]))
+            expected = b"".join(map(ref.state_to_bytes, states[:-1][::16]))
+            state = ctypes.create_string_buffer(start, size)
+            kept = ctypes.create_string_buffer(b"\xa5" * (len(expected) + size), len(expected) + size)
+            lib.base_blocks(large, state, data, ctypes.c_uint64(count), kept)
+            failures += (state.raw, kept.raw) != (ref.state_to_bytes(states[-1]), expected + b"\xa5" * size)
+            state = ctypes.create_string_buffer(start, size)
+            lib.base_blocks(large, state, data, ctypes.c_uint64(count), None)
+            failures += state.raw != ref.state_to_bytes(states[-1])
+    return failures
+
+
 def main(argv):
     count = int(argv[1]) if len(argv) > 1 else 60
     rng = random.Random(1)
     with tempfile.TemporaryDirectory() as folder:
         lib = build(folder)
-        failures = (check_blocks(lib, rng, count) + check_messages(lib, rng)
+        failures = (check_blocks(lib, rng, count) + check_messages(lib, rng) + check_runs(lib, rng)
                     + check_agreement(lib, rng, count))
     print("baseline: %d blocks of each family, %d failures" % (count, failures))
     return 1 if failures else 0

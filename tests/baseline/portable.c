@@ -1,4 +1,4 @@
-/* SIMD v1.1 in portable C, for speed comparison.
+/* SIMD v1.1 in portable C, for speed comparison and for messages too long for the reference.
 
    The transform is a radix-2 number theoretic transform on 32-bit integers.
    Even and odd places are two transforms of half the size, because the upper
@@ -15,6 +15,7 @@ void base_transform(int large, int last, const uint8_t *block, uint16_t *y);
 void base_expand(int large, int last, const uint8_t *block, uint32_t *w);
 void base_compress(int large, int last, uint32_t *state, const uint8_t *block);
 void base_hash(int width, const uint8_t *msg, uint64_t bits, uint8_t *out);
+void base_blocks(int large, uint32_t *state, const uint8_t *msg, uint64_t count, uint32_t *kept);
 
 /* Transform */
 
@@ -333,4 +334,18 @@ void base_hash(int width, const uint8_t *msg, uint64_t bits, uint8_t *out)
     base_compress(large, 1, state, block);
     for (int k = 0; k < width / 8; k++)
         out[k] = (uint8_t)(state[k / 4] >> (8 * (k % 4)));
+}
+
+/* Some message blocks, from a state on.  The states before blocks 0, 16, 32 and so on are kept
+   in turn where kept is not null. */
+void base_blocks(int large, uint32_t *state, const uint8_t *msg, uint64_t count, uint32_t *kept)
+{
+    size_t size = large ? 128 : 64;
+    for (uint64_t k = 0; k < count; k++, msg += size) {
+        if (kept && k % 16 == 0) {
+            memcpy(kept, state, size);
+            kept += size / 4;
+        }
+        base_compress(large, 0, state, msg);
+    }
 }

@@ -115,7 +115,7 @@ def check_compilers():
         written(os.path.join("stubs", name), "")
     status, text, _ = run(["gcc", "-std=c99", "-E", "-P", "-U__GNUC__", "-nostdinc", "-I" + stubs,
                            INCLUDE, os.path.join(BUILT, "alone.c")])
-    tally.equal((status, text.count("uint8_t simd_"), "__attribute__" in text), (0, 19, False),
+    tally.equal((status, text.count("uint8_t simd_"), "__attribute__" in text), (0, 20, False),
                 "no attributes where they are not known")
 
 
@@ -131,28 +131,31 @@ CARELESS_CALLS = [
     ("-Werror=unused-result", "simd_open(256, form, sizeof form);"),
     ("-Werror=unused-result", "simd_hash(256, form, 1, 8, out, 32);"),
     ("-Werror=unused-result", "simd_tape(form, 1, out, 32, number, number + 1);"),
-    ("-Werror=unused-result", "simd_hmac_check(form, 134, out, 32, number);"),
+    ("-Werror=unused-result", "simd_restore(form, sizeof form, out, SIMD_FORM(256));"),
+    ("-Werror=unused-result", "simd_hmac_check(form, sizeof form, out, 32, number);"),
     ("-Werror=unused-result", "simd_page_entry(1, 256, form, 32, out, 76);"),
     ("-Werror=unused-result", "simd_quote(256, form, 32, out, 18);"),
     ("-Werror=unused-result", "simd_quote_check(out, 18, number);"),
-    ("-Werror=unused-result", "simd_index(256, form, 1, 8, out, 6, out + 6, 32, number);"),
-    ("-Werror=unused-result", "simd_reindex(256, form, 1, 8, form, 6, 0, out, 6, out + 6, 32, number);"),
+    ("-Werror=unused-result", "simd_index(256, form, 1, 8, out, SIMD_HEAD, out + SIMD_HEAD, 32, number);"),
+    ("-Werror=unused-result", "simd_reindex(256, form, 1, 8, form, SIMD_HEAD, 0, out, SIMD_HEAD, out + SIMD_HEAD, 32, number);"),
     ("-Werror=nonnull", "answer = simd_open(256, NULL, 0);"),
-    ("-Werror=nonnull", "answer = simd_feed(form, 134, NULL, 0, 0, number);"),
+    ("-Werror=nonnull", "answer = simd_feed(form, sizeof form, NULL, 0, 0, number);"),
     ("-Werror=nonnull", "answer = simd_hash(256, NULL, 0, 0, out, 32);"),
-    ("-Werror=nonnull", "answer = simd_take(form, 134, out, 32, NULL);"),
-    ("-Werror=nonnull", "answer = simd_hmac_open(256, NULL, 0, form, 134);"),
-    ("-Werror=nonnull", "answer = simd_hmac_check(form, 134, NULL, 0, number);"),
+    ("-Werror=nonnull", "answer = simd_take(form, sizeof form, out, 32, NULL);"),
+    ("-Werror=nonnull", "answer = simd_restore(NULL, 0, form, sizeof form);"),
+    ("-Werror=nonnull", "answer = simd_restore(form, sizeof form, NULL, 0);"),
+    ("-Werror=nonnull", "answer = simd_hmac_open(256, NULL, 0, form, sizeof form);"),
+    ("-Werror=nonnull", "answer = simd_hmac_check(form, sizeof form, NULL, 0, number);"),
     ("-Werror=nonnull", "answer = simd_page_entry(1, 256, NULL, 0, out, 76);"),
     ("-Werror=nonnull", "answer = simd_page_entry(1, 256, form, 32, NULL, 0);"),
     ("-Werror=nonnull", "answer = simd_quote(256, NULL, 0, out, 18);"),
     ("-Werror=nonnull", "answer = simd_quote(256, form, 32, NULL, 0);"),
     ("-Werror=nonnull", "answer = simd_quote_check(NULL, 0, number);"),
     ("-Werror=nonnull", "answer = simd_quote_check(out, 18, NULL);"),
-    ("-Werror=nonnull", "answer = simd_index(256, NULL, 0, 0, out, 6, out + 6, 32, number);"),
-    ("-Werror=nonnull", "answer = simd_index(256, form, 1, 8, out, 6, out + 6, 32, NULL);"),
-    ("-Werror=nonnull", "answer = simd_reindex(256, form, 1, 8, NULL, 0, 0, out, 6, out + 6, 32, number);"),
-    ("-Werror=nonnull", "answer = simd_reindex(256, form, 1, 8, form, 6, 0, NULL, 0, out, 32, number);"),
+    ("-Werror=nonnull", "answer = simd_index(256, NULL, 0, 0, out, SIMD_HEAD, out + SIMD_HEAD, 32, number);"),
+    ("-Werror=nonnull", "answer = simd_index(256, form, 1, 8, out, SIMD_HEAD, out + SIMD_HEAD, 32, NULL);"),
+    ("-Werror=nonnull", "answer = simd_reindex(256, form, 1, 8, NULL, 0, 0, out, SIMD_HEAD, out + SIMD_HEAD, 32, number);"),
+    ("-Werror=nonnull", "answer = simd_reindex(256, form, 1, 8, form, SIMD_HEAD, 0, NULL, 0, out, 32, number);"),
     ("-Werror=overflow", "answer = simd_open(65792, form, sizeof form);"),
 ]
 
@@ -201,7 +204,7 @@ def indexed(size, place, value):
 
 def check_examples():
     found = examples(HEADER)
-    tally.equal(sorted(found), ["index.c", "keyed.c", "page.c", "quote.c", "stream.c", "vector.cpp", "whole.c"],
+    tally.equal(sorted(found), ["index.c", "keyed.c", "page.c", "quote.c", "restore.c", "stream.c", "vector.cpp", "whole.c"],
                 "the header's examples")
     for name, text in found.items():
         source = written(name, text)
@@ -211,6 +214,8 @@ def check_examples():
                 continue
             if name == "whole.c":
                 tally.equal(run([built]), (0, digest(256, b"abc"), ""), name)
+            elif name == "restore.c":
+                tally.equal(run([built]), (0, digest(256, b"abcdef").replace("\n", " same\n"), ""), name)
             elif name == "keyed.c":
                 tally.equal(run([built]), (0, keyed(b"group", b"abc"), ""), name)
             elif name == "page.c":

@@ -1,10 +1,10 @@
-/* Use of include/simd.h from C: hash, feed in pieces, store, restore, seal under
-   a key, compare, run a tape, all of these with bits past the count, print a page,
-   quote a digest and check the quote, index a record and correct it.  Prints how many
-   answers it checked; the exit status is 0 where all were right.  The digests are
-   those of appendix A, the tags those of tests/reference/hmac_ref.py, the pages those
-   of printf, the quotes those of tests/reference/quote_ref.py, the digests of records
-   those of tests/reference/index_ref.py. */
+/* Use of include/simd.h from C: hash, feed in pieces, store, restore, also forms of
+   the old size, seal under a key, compare, run a tape, all of these with bits past the
+   count, print a page, quote a digest and check the quote, index a record and correct
+   it.  Prints how many answers it checked; the exit status is 0 where all were right.
+   The digests are those of appendix A, the tags those of tests/reference/hmac_ref.py,
+   the pages those of printf, the quotes those of tests/reference/quote_ref.py, the
+   digests of records those of tests/reference/index_ref.py. */
 
 #include <stdio.h>
 #include <string.h>
@@ -198,6 +198,220 @@ static void check_keyed(const struct vector *v)
               && simd_hmac_feed(stored, size, clean, sizeof clean, 12, &blocks) == SIMD_ACCEPTED
               && memcmp(form, stored, size) == 0,
           "a bit past the count of a piece under a key");
+}
+
+/* The sizes of stored forms, of today and old ones; each argument of a macro is
+   evaluated once. */
+static void check_form_sizes(void)
+{
+    static const struct {
+        uint16_t width;
+        size_t form, old, keyed, old_keyed;
+    } SIZES[] = {
+        {224, 138, 134, 276, 268}, {256, 138, 134, 276, 268},
+        {384, 266, 262, 532, 524}, {512, 266, 262, 532, 524},
+    };
+    static const uint16_t widths[2] = {256, 512};
+    const uint16_t *w = widths;
+    uint8_t room[SIMD_OLD_HMAC_FORM(512)], small[SIMD_OLD_FORM(256)];
+    size_t k;
+    for (k = 0; k < sizeof SIZES / sizeof *SIZES; k++)
+        check(SIMD_FORM(SIZES[k].width) == SIZES[k].form
+                  && SIMD_OLD_FORM(SIZES[k].width) == SIZES[k].old
+                  && SIMD_HMAC_FORM(SIZES[k].width) == SIZES[k].keyed
+                  && SIMD_OLD_HMAC_FORM(SIZES[k].width) == SIZES[k].old_keyed,
+              "the sizes of stored forms");
+    check(SIMD_FORM_SMALL == 138 && SIMD_FORM_LARGE == 266 && SIMD_OLD_FORM_SMALL == 134
+              && SIMD_OLD_FORM_LARGE == 262 && SIMD_HMAC_FORM_SMALL == 276
+              && SIMD_HMAC_FORM_LARGE == 532 && SIMD_OLD_HMAC_FORM_SMALL == 268
+              && SIMD_OLD_HMAC_FORM_LARGE == 524,
+          "the sizes by family");
+    check(SIMD_HEAD == 10 && SIMD_BITS_MAX == UINT64_MAX, "the head and the limit");
+    check(SIMD_OLD_FORM(*w++) == 134 && SIMD_OLD_HMAC_FORM(*w++) == 524 && w == widths + 2,
+          "each argument once");
+    check(sizeof room == 524 && sizeof small == 134, "the sizes by constants");
+}
+
+enum { GUARD = 8, OLD_HEAD = SIMD_HEAD - 4, FIRST = 500 };
+
+/* The old form of one whose length has no more than 4 bytes. */
+static void make_old(const uint8_t *form, size_t size, uint8_t *old)
+{
+    memcpy(old, form, OLD_HEAD);
+    memcpy(old + OLD_HEAD, form + SIMD_HEAD, size - SIMD_HEAD);
+}
+
+/* A form that is restored to a room with guard bytes round it, and what the room is then. */
+static struct room {
+    uint8_t before[GUARD], form[SIMD_FORM_LARGE], after[GUARD];
+} room, blank;
+
+static uint8_t restore_it(const uint8_t *stored, size_t stored_len, size_t form_len)
+{
+    memset(&room, 0x5a, sizeof room);
+    memset(&blank, 0x5a, sizeof blank);
+    return simd_restore(stored, stored_len, room.form, form_len);
+}
+
+static void check_not_restored(uint8_t refusal, const uint8_t *stored, size_t stored_len,
+                               size_t form_len)
+{
+    check(restore_it(stored, stored_len, form_len) == refusal
+              && memcmp(&room, &blank, sizeof room) == 0,
+          "a form not restored");
+}
+
+/* Some ones fed, the hash kept in an old form: taken as it is, not fed, restored, and fed
+   the other ones.  Then the refusals, in their order. */
+static void check_old(const struct vector *v)
+{
+    uint8_t ones[256], form[SIMD_FORM_LARGE + 1] = {0}, old[SIMD_OLD_FORM_LARGE + 1] = {0};
+    uint8_t kept[sizeof old], out[2][SIMD_DIGEST_MAX];
+    size_t size = SIMD_FORM(v->width), old_size = SIMD_OLD_FORM(v->width), n;
+    size_t digest_len = SIMD_DIGEST(v->width);
+    uint64_t blocks[2] = {7, 7};
+    memset(ones, 0xff, sizeof ones);
+    check(simd_open(v->width, form, size) == SIMD_ACCEPTED
+              && simd_feed(form, size, ones, sizeof ones, FIRST, &blocks[0]) == SIMD_ACCEPTED,
+          "a hash to store");
+    make_old(form, size, old);
+    memcpy(kept, old, sizeof old);
+    check(simd_take(form, size, out[0], digest_len, &blocks[0]) == SIMD_ACCEPTED
+              && simd_take(old, old_size, out[1], digest_len, &blocks[1]) == SIMD_ACCEPTED
+              && memcmp(out[0], out[1], digest_len) == 0 && blocks[0] == blocks[1],
+          "take from an old form");
+    blocks[0] = 7;
+    check(simd_feed(old, old_size, ones, sizeof ones, 1, &blocks[0]) == SIMD_REFUSED_OUTPUT
+              && simd_feed(old, old_size, ones, 0, 0, &blocks[0]) == SIMD_REFUSED_OUTPUT
+              && simd_feed(old, old_size, ones, 1, 9, &blocks[0]) == SIMD_REFUSED_COUNT
+              && blocks[0] == 7 && memcmp(old, kept, sizeof old) == 0,
+          "an old form fed in place");
+
+    check(restore_it(old, old_size, size) == SIMD_ACCEPTED && memcmp(room.form, form, size) == 0
+              && memcmp(room.form + size, blank.form, sizeof room - GUARD - size) == 0
+              && memcmp(room.before, blank.before, GUARD) == 0,
+          "an old form restored");
+    check(restore_it(form, size, size + GUARD) == SIMD_ACCEPTED
+              && memcmp(room.form, form, size) == 0
+              && memcmp(room.form + size, blank.form, sizeof room - GUARD - size) == 0
+              && memcmp(room.before, blank.before, GUARD) == 0,
+          "a form restored to the same bytes");
+    check(restore_it(old, old_size, size) == SIMD_ACCEPTED
+              && simd_feed(room.form, size, ones, sizeof ones, v->ones - FIRST, &blocks[0])
+                     == SIMD_ACCEPTED
+              && simd_take(room.form, size, out[0], digest_len, &blocks[1]) == SIMD_ACCEPTED
+              && is_hex(out[0], digest_len, v->ones_digest) && blocks[0] + blocks[1] == 3,
+          "a restored form goes on");
+
+    /* Of every size but two the form is none, whatever else is wrong with it. */
+    for (n = 0; n < sizeof old; n++)
+        if (n != old_size && n != size)
+            check_not_restored(SIMD_REFUSED_FORM, old, n, 0);
+    check_not_restored(SIMD_REFUSED_FORM, form, size - 1, size);
+    check_not_restored(SIMD_REFUSED_FORM, form, size + 1, size);
+    check_not_restored(SIMD_REFUSED_OUTPUT, old, old_size, size - 1);
+    check_not_restored(SIMD_REFUSED_OUTPUT, old, old_size, old_size);
+    check_not_restored(SIMD_REFUSED_OUTPUT, form, size, 0);
+    old[old_size - 1] |= 1;
+    check_not_restored(SIMD_REFUSED_TAIL, old, old_size, 0);
+    check(simd_feed(old, old_size, ones, 0, 1, &blocks[0]) == SIMD_REFUSED_TAIL
+              && simd_take(old, old_size, out[0], 0, &blocks[0]) == SIMD_REFUSED_TAIL,
+          "a bit past the tail of an old form");
+    old[0] ^= 1;
+    check_not_restored(SIMD_REFUSED_FORM, old, 1, 0);
+    check_not_restored(SIMD_REFUSED_WIDTH, old, 2, 0);
+    check_not_restored(SIMD_REFUSED_WIDTH, old, old_size - 1, 0);
+    check_not_restored(SIMD_REFUSED_WIDTH, old, old_size, size);
+}
+
+/* The same under a key: the halves are restored one by one. */
+static void check_old_keyed(const struct vector *v)
+{
+    uint8_t ones[256], key[SIMD_BLOCK_LARGE + 1], tag[2][SIMD_DIGEST_MAX];
+    uint8_t form[SIMD_HMAC_FORM_LARGE], old[SIMD_OLD_HMAC_FORM_LARGE], kept[sizeof old];
+    uint8_t made[SIMD_HMAC_FORM_LARGE], mixed[SIMD_FORM_LARGE + SIMD_OLD_FORM_LARGE];
+    size_t size = SIMD_FORM(v->width), old_size = SIMD_OLD_FORM(v->width), k;
+    size_t keyed_size = SIMD_HMAC_FORM(v->width), old_keyed_size = SIMD_OLD_HMAC_FORM(v->width);
+    size_t tag_len = SIMD_DIGEST(v->width);
+    uint64_t blocks[2] = {7, 7}, right = 7;
+    memset(ones, 0xff, sizeof ones);
+    for (k = 0; k < sizeof key; k++)
+        key[k] = (uint8_t)k;
+    check(simd_hmac_open(v->width, key, SIMD_BLOCK(v->width) + 1u, form, keyed_size) == SIMD_ACCEPTED
+              && simd_hmac_feed(form, keyed_size, ones, sizeof ones, FIRST, &blocks[0])
+                     == SIMD_ACCEPTED,
+          "a keyed hash to store");
+    make_old(form, size, old);
+    make_old(form + size, size, old + old_size);
+    memcpy(kept, old, old_keyed_size);
+    check(simd_hmac_take(form, keyed_size, tag[0], tag_len, &blocks[0]) == SIMD_ACCEPTED
+              && simd_hmac_take(old, old_keyed_size, tag[1], tag_len, &blocks[1]) == SIMD_ACCEPTED
+              && memcmp(tag[0], tag[1], tag_len) == 0 && blocks[0] == blocks[1],
+          "take from an old keyed form");
+    check(simd_hmac_check(old, old_keyed_size, tag[0], tag_len, &right) == SIMD_ACCEPTED
+              && right == 1
+              && simd_hmac_check(old, old_keyed_size, tag[0], tag_len - 1, &right) == SIMD_ACCEPTED
+              && right == 0,
+          "check by an old keyed form");
+    blocks[0] = 7;
+    check(simd_hmac_feed(old, old_keyed_size, ones, 1, 8, &blocks[0]) == SIMD_REFUSED_OUTPUT
+              && simd_hmac_feed(old, old_keyed_size, ones, 1, 9, &blocks[0]) == SIMD_REFUSED_COUNT
+              && blocks[0] == 7 && memcmp(old, kept, old_keyed_size) == 0,
+          "an old keyed form fed in place");
+    memcpy(mixed, old, old_size);
+    memcpy(mixed + old_size, form + size, size);
+    right = 7;
+    check(simd_hmac_check(mixed, old_size + size, tag[0], tag_len, &right) == SIMD_REFUSED_FORM
+              && right == 7,
+          "an old half and one of today");
+    memcpy(mixed, form, size);
+    memcpy(mixed + size, old + old_size, old_size);
+    check(simd_hmac_check(mixed, old_size + size, tag[0], tag_len, &right) == SIMD_REFUSED_FORM
+              && right == 7,
+          "a half of today and an old one");
+
+    check(simd_restore(old, old_size, made, size) == SIMD_ACCEPTED
+              && simd_restore(old + old_size, old_size, made + size, size) == SIMD_ACCEPTED
+              && memcmp(made, form, keyed_size) == 0,
+          "both halves restored");
+    check(simd_hmac_feed(made, keyed_size, ones, sizeof ones, v->ones - FIRST, &blocks[0])
+                  == SIMD_ACCEPTED
+              && simd_hmac_take(made, keyed_size, tag[0], tag_len, &blocks[1]) == SIMD_ACCEPTED
+              && is_hex(tag[0], tag_len, v->ones_tag),
+          "a restored keyed form goes on");
+}
+
+/* Stored lengths of the most bits and of one less. */
+static void check_limit(const struct vector *v)
+{
+    const uint8_t one = 0xc0;
+    uint8_t form[SIMD_FORM_LARGE], kept[SIMD_FORM_LARGE], out[SIMD_DIGEST_MAX];
+    size_t size = SIMD_FORM(v->width), k;
+    uint64_t blocks = 7;
+    check(simd_open(v->width, form, size) == SIMD_ACCEPTED, "open");
+    memset(form + 2, 0xff, SIMD_HEAD - 2);
+    memcpy(kept, form, size);
+    check(simd_feed(form, size, &one, 1, 1, &blocks) == SIMD_REFUSED_TOTAL
+              && simd_feed(form, size, &one, 1, 9, &blocks) == SIMD_REFUSED_COUNT && blocks == 7
+              && memcmp(form, kept, size) == 0,
+          "a bit more than the most");
+    check(simd_feed(form, size, &one, 1, 0, &blocks) == SIMD_ACCEPTED && blocks == 0
+              && memcmp(form, kept, size) == 0
+              && simd_take(form, size, out, sizeof out, &blocks) == SIMD_ACCEPTED && blocks == 2,
+          "no bit more than the most");
+    form[2] = 0xfe;
+    check(simd_feed(form, size, &one, 1, 2, &blocks) == SIMD_REFUSED_TOTAL && form[2] == 0xfe
+              && simd_feed(form, size, &one, 1, 1, &blocks) == SIMD_ACCEPTED,
+          "up to the most bits");
+    for (k = 2; k < SIMD_HEAD; k++)
+        check(form[k] == 0xff, "the length of the most bits");
+
+    /* Across the most bits that an old form had. */
+    memset(form + OLD_HEAD, 0, SIMD_HEAD - OLD_HEAD);
+    check(simd_feed(form, size, &one, 1, 1, &blocks) == SIMD_ACCEPTED && blocks == 1,
+          "past the most bits of an old form");
+    for (k = 2; k < SIMD_HEAD; k++)
+        check(form[k] == (k == OLD_HEAD), "the length past the most bits of an old form");
 }
 
 static void check_steps(const struct vector *v)
@@ -423,7 +637,7 @@ static void check_parts(const struct vector *v)
     }
 }
 
-enum { ENTRIES = 9, GUARD = 8 };
+enum { ENTRIES = 9 };
 
 /* Entries in one buffer, with guard bytes on both sides, each beside what snprintf
    makes of the digest of one block; then the refusals, in their order. */
@@ -593,23 +807,24 @@ static void check_index_sizes(void)
         uint64_t bits;
         size_t size;
     } SIZES[] = {
-        {224, 0, 6}, {256, 511, 6}, {256, 512, 70}, {224, 8703, 70}, {256, 8704, 134},
-        {256, 524288, 4102}, {384, 0, 6}, {512, 1023, 6}, {512, 1024, 134}, {384, 17407, 134},
-        {512, 17408, 262}, {512, 524288, 4102}, {256, SIMD_BITS_MAX, 33554438},
-        {512, SIMD_BITS_MAX, 33554438},
+        {224, 0, 10}, {256, 511, 10}, {256, 512, 74}, {224, 8703, 74}, {256, 8704, 138},
+        {256, 524288, 4106}, {384, 0, 10}, {512, 1023, 10}, {512, 1024, 138}, {384, 17407, 138},
+        {512, 17408, 266}, {512, 524288, 4106}, {256, UINT64_C(4294967295), 33554442},
+        {256, UINT64_C(4294967808), 33554506}, {512, UINT64_C(4294968320), 33554570},
+        {256, SIMD_BITS_MAX, 144115188075855882}, {512, SIMD_BITS_MAX, 144115188075855882},
     };
     static const uint16_t widths[2] = {256, 512};
     static const uint64_t counts[2] = {8704, 17408};
     const uint16_t *w = widths;
     const uint64_t *n = counts;
-    uint8_t room[SIMD_INDEX(512, 17408)];
+    uint8_t states[SIMD_INDEX(512, 17408)];
     size_t k;
     for (k = 0; k < sizeof SIZES / sizeof *SIZES; k++)
         check(SIMD_INDEX(SIZES[k].width, SIZES[k].bits) == SIZES[k].size, "the size of an index");
-    check(SIMD_INDEX(*w++, *n++) == 134, "the size of an index, small family");
-    check(SIMD_INDEX(*w++, *n++) == 262, "the size of an index, large family");
+    check(SIMD_INDEX(*w++, *n++) == 138, "the size of an index, small family");
+    check(SIMD_INDEX(*w++, *n++) == 266, "the size of an index, large family");
     check(w == widths + 2 && n == counts + 2, "each argument once");
-    check(sizeof room == 262, "the size of an index, by constants");
+    check(sizeof states == 266, "the size of an index, by constants");
 }
 
 enum { RECORD_BLOCKS = 40, STATES = 3, RECORD = (RECORD_BLOCKS + 1) * SIMD_BLOCK_LARGE };
@@ -673,8 +888,10 @@ static void check_index(const struct vector *v)
               && memcmp(first.out + digest_len, fresh.out, GUARD) == 0,
           "what lies behind an index and its digest");
     check(len == SIMD_HEAD + STATES * size && index[0] == (width & 255) && index[1] == width >> 8
-              && index[2] == (bits & 255) && index[3] == bits >> 8 && index[4] == 0 && index[5] == 0,
+              && index[2] == (bits & 255) && index[3] == bits >> 8,
           "the front of an index");
+    for (k = 4; k < SIMD_HEAD; k++)
+        check(index[k] == 0, "the high bytes of its length");
     check(simd_open(width, form, sizeof form) == SIMD_ACCEPTED, "open");
     for (k = 0; k < STATES; k++) {
         check(memcmp(index + SIMD_HEAD + k * size, form + SIMD_HEAD, size) == 0,
@@ -735,6 +952,17 @@ static void check_index(const struct vector *v)
               && index_it(&second, width, bits, len, digest_len - 1) == SIMD_REFUSED_OUTPUT
               && memcmp(&second, &fresh, sizeof fresh) == 0,
           "a fresh run refused");
+
+    /* As it was with 4 length bytes it is refused; made again, it corrects. */
+    memmove(first.index + OLD_HEAD, first.index + SIMD_HEAD, len - SIMD_HEAD);
+    for (block = 0; block <= last; block += last)
+        check_refused(SIMD_REFUSED_INDEX, width, bits, len - SIMD_HEAD + OLD_HEAD, block, len,
+                      digest_len);
+    check(index_it(&first, width, bits, len, digest_len) == SIMD_ACCEPTED
+              && correct_it(width, bits, len, last, len, digest_len) == SIMD_ACCEPTED
+              && memcmp(second.index, index, len) == 0
+              && is_hex(second.out, digest_len, v->record_digest),
+          "an old index made again");
 }
 
 int main(void)
@@ -744,6 +972,9 @@ int main(void)
         check_hash(&VECTORS[k]);
         check_pieces(&VECTORS[k]);
         check_keyed(&VECTORS[k]);
+        check_old(&VECTORS[k]);
+        check_old_keyed(&VECTORS[k]);
+        check_limit(&VECTORS[k]);
         check_steps(&VECTORS[k]);
         check_compare(&VECTORS[k]);
         check_tape(&VECTORS[k]);
@@ -753,6 +984,7 @@ int main(void)
         check_quote(&VECTORS[k]);
         check_index(&VECTORS[k]);
     }
+    check_form_sizes();
     check_index_sizes();
     printf("c: %u compared, %u differ\n", compared, differ);
     return differ != 0;

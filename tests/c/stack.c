@@ -19,11 +19,12 @@ static ucontext_t outside, inside;
 
 /* What the calls are lent, and what they answer. */
 static uint16_t width;
-static uint8_t form[SIMD_FORM_LARGE], keyed[SIMD_HMAC_FORM_LARGE], a[LONG], b[LONG], out[LONG];
+static uint8_t form[SIMD_FORM_LARGE], stored[SIMD_FORM_LARGE], keyed[SIMD_HMAC_FORM_LARGE];
+static uint8_t a[LONG], b[LONG], out[LONG];
 static uint8_t old[SIMD_INDEX(256, 8 * LONG) + 1], made[sizeof old];
 static uint32_t words[SIMD_WORDS_LARGE];
-static size_t form_len, keyed_len, key_len, tag_len, block_len, tape_len, digest_len, entry_len;
-static size_t quote_len, old_len, made_len;
+static size_t form_len, stored_len, keyed_len, key_len, tag_len, block_len, tape_len, digest_len;
+static size_t entry_len, quote_len, old_len, made_len;
 static uint64_t bits, other_bits, number, second, entry, block;
 static volatile uint8_t answer;
 
@@ -47,6 +48,12 @@ static void call_take(void)
 {
     MARK();
     answer = simd_take(form, form_len, out, sizeof out, &number);
+}
+
+static void call_restore(void)
+{
+    MARK();
+    answer = simd_restore(stored, stored_len, form, sizeof form);
 }
 
 static void call_hash(void)
@@ -155,6 +162,7 @@ static struct bound {
     {"simd_open", SIMD_STACK_OPEN, 0, call_open, 0, 0},
     {"simd_feed", SIMD_STACK_FEED, 0, call_feed, 0, 0},
     {"simd_take", SIMD_STACK_TAKE, 0, call_take, 0, 0},
+    {"simd_restore", SIMD_STACK_RESTORE, 0, call_restore, 0, 0},
     {"simd_hash", SIMD_STACK_HASH, 0, call_hash, 0, 0},
     {"simd_hmac_open", SIMD_STACK_HMAC_OPEN, 0, call_hmac_open, 0, 0},
     {"simd_hmac_feed", SIMD_STACK_HMAC_FEED, 0, call_hmac_feed, 0, 0},
@@ -173,7 +181,7 @@ static struct bound {
     {"simd_reindex", SIMD_STACK_REINDEX, 0, call_reindex, 0, 0},
 };
 enum {
-    OPEN, FEED, TAKE, HASH, HMAC_OPEN, HMAC_FEED, HMAC_TAKE, HMAC_CHECK, HMAC,
+    OPEN, FEED, TAKE, RESTORE, HASH, HMAC_OPEN, HMAC_FEED, HMAC_TAKE, HMAC_CHECK, HMAC,
     EXPAND, STEPS, UNSTEPS, COMPARE, TAPE, PAGE_ENTRY, QUOTE, QUOTE_CHECK, INDEX, REINDEX, CALLS
 };
 
@@ -237,6 +245,26 @@ static void tape(void)
     b[at++] = 4;
     b[at++] = 5;
     tape_len = at;
+}
+
+/* The form restored, and its old form taken, fed, which is refused, and restored; then an
+   old one that is a byte short, and the form again. */
+static void measure_restored(void)
+{
+    memcpy(stored, form, sizeof stored);
+    stored_len = form_len;
+    measure(RESTORE);
+    memmove(stored + SIMD_HEAD - 4, stored + SIMD_HEAD, form_len - SIMD_HEAD);
+    stored_len = SIMD_OLD_FORM(width);
+    memcpy(form, stored, stored_len);
+    form_len = stored_len;
+    measure(TAKE);
+    measure(FEED);
+    form_len = SIMD_FORM(width);
+    stored_len--;
+    measure(RESTORE);
+    stored_len++;
+    measure(RESTORE);
 }
 
 /* A keyed hash with the key that lies in b, fed twice; tags of all kinds. */
@@ -364,6 +392,7 @@ int main(void)
                 message(TAILS[t], LONG);
                 measure(FEED);
                 measure(TAKE);
+                measure_restored();
                 message(COUNTS[c], LONG);
                 measure(FEED);
                 measure(TAKE);

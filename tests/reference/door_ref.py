@@ -6,6 +6,7 @@ tests/product.py and returns the same: the refusal, then the contents after
 the call of everything that was lent.
 """
 
+import form_ref
 import hmac_ref
 import index_ref
 import page_ref
@@ -13,7 +14,6 @@ import quote_ref
 import simd_ref as ref
 import tape_ref
 
-BITS_MAX = 4294967295
 SAME, APART, MEET = 0, 1, 2
 
 
@@ -26,30 +26,17 @@ def width_refusal(width):
 def piece_refusal(data, bits, before=0):
     if bits > 8 * len(data):
         return 2
-    return 4 if before + bits > BITS_MAX else 0
-
-
-def form_refusal(form):
-    if len(form) < 2:
-        return 8
-    width = int.from_bytes(form[:2], "little")
-    if width not in ref.WIDTHS:
-        return 1
-    if len(form) != 6 + 2 * ref.block_bytes(width):
-        return 8
-    _, length, _, block = parts(form)
-    past = ref.block_bits(width) - length % ref.block_bits(width)
-    return 9 if int.from_bytes(block, "big") % 2 ** past else 0
+    return 4 if before + bits > form_ref.BITS_MAX else 0
 
 
 def key_refusal(key):
-    return 4 if 8 * len(key) > BITS_MAX else 0
+    return 4 if 8 * len(key) > form_ref.BITS_MAX else 0
 
 
 def keyed_refusal(form):
-    """The front half as a form, the back half as one, then what a keyed hash may hold."""
+    """The front half as a form, the back half as one, each by its own size, then what a keyed hash may hold."""
     front, back = halves(form)
-    refusal = form_refusal(front) or form_refusal(back)
+    refusal = form_ref.refusal(front) or form_ref.refusal(back)
     if refusal:
         return refusal
     (width, length, _, _), (back_width, back_length, _, _) = parts(front), parts(back)
@@ -60,15 +47,13 @@ def keyed_refusal(form):
 # Stored form
 
 def parts(form):
-    """Width, bit length, state and last block of a form of the right size."""
-    width, length = int.from_bytes(form[:2], "little"), int.from_bytes(form[2:6], "little")
-    size = ref.block_bytes(width)
-    return width, length, ref.state_from_bytes(width, form[6:6 + size]), form[6 + size:]
+    """Width, bit length, state and last block of a form of either size."""
+    width, length, state, block = form_ref.parts(form)
+    return width, length, ref.state_from_bytes(width, state), block
 
 
 def make_form(width, length, state, block):
-    return (width.to_bytes(2, "little") + length.to_bytes(4, "little")
-            + ref.state_to_bytes(state) + block)
+    return form_ref.made(width, length, ref.state_to_bytes(state), block)
 
 
 def halves(form):
@@ -84,8 +69,7 @@ def over(new, old):
 # Calls
 
 def open(width, form):
-    size = None if width_refusal(width) else 6 + 2 * ref.block_bytes(width)
-    refusal = width_refusal(width) or (6 if len(form) < size else 0)
+    refusal = width_refusal(width) or (6 if len(form) < form_ref.size(width) else 0)
     if refusal:
         return refusal, form
     empty = make_form(width, 0, ref.start_state(width), bytes(ref.block_bytes(width)))
@@ -93,10 +77,11 @@ def open(width, form):
 
 
 def feed(form, piece, bits, blocks=0):
-    refusal = form_refusal(form)
+    """An old form is too short for the one that a feed leaves."""
+    refusal = form_ref.refusal(form)
     if not refusal:
         width, length, state, block = parts(form)
-        refusal = piece_refusal(piece, bits, length)
+        refusal = piece_refusal(piece, bits, length) or (6 if len(form) < form_ref.size(width) else 0)
     if refusal:
         return refusal, form, blocks
     # The bits of the tail and those of the piece, as one number.
@@ -112,7 +97,7 @@ def feed(form, piece, bits, blocks=0):
 
 
 def take(form, out, blocks=0):
-    refusal = form_refusal(form)
+    refusal = form_ref.refusal(form)
     if not refusal:
         width, length, state, block = parts(form)
         refusal = 6 if len(out) < width // 8 else 0
@@ -123,6 +108,14 @@ def take(form, out, blocks=0):
         state = ref.compress(width, False, state, block)
     state = ref.compress(width, True, state, ref.length_block(width, length))
     return 0, over(ref.state_to_bytes(state)[:width // 8], out), 2 if tail else 1
+
+
+def restore(stored, form):
+    refusal = form_ref.refusal(stored)
+    if not refusal:
+        new = form_ref.renewed(stored)
+        refusal = 6 if len(form) < len(new) else 0
+    return refusal, form if refusal else over(new, form)
 
 
 def hash(width, message, bits, out):
@@ -143,8 +136,8 @@ def fed(form, data):
 def hmac_open(width, key, form):
     refusal = width_refusal(width) or key_refusal(key)
     if not refusal:
-        empty = open(width, bytes(6 + 2 * ref.block_bytes(width)))[1]
-        refusal = 6 if len(form) < 2 * len(empty) else 0
+        empty = open(width, bytes(form_ref.size(width)))[1]
+        refusal = 6 if len(form) < form_ref.keyed_size(width) else 0
     if refusal:
         return refusal, form
     block = hmac_ref.key_block(ref.block_bytes(width), lambda data, bits: ref.digest(width, data, bits), key)
@@ -162,8 +155,8 @@ def hmac_feed(form, piece, bits, blocks=0):
 
 
 def tag_of(form):
-    """(tag, compressions) of a keyed form."""
-    inner, outer = halves(form)
+    """(tag, compressions) of a keyed form of either size."""
+    inner, outer = map(form_ref.renewed, halves(form))
     size = parts(inner)[0] // 8
     _, digest, first = take(inner, bytes(size))
     _, outer, second = feed(outer, digest, 8 * size)

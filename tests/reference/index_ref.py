@@ -7,23 +7,19 @@
     fits(width, bits, old, block)             whether an index and a block number fit a message
     start(width, bits, block)                 the number of the block at which a correction starts
     corrected(width, data, bits, old, block)  (index, digest, compressions) of a correction
+    as_old(index)                             the same with 4 length bytes, as it was once kept
 
-An index is the width (2 bytes) and the bit length (4), both low byte first, then the state before
+An index is the width (2 bytes) and the bit length (8), both low byte first, then the state before
 block 0, 16, 32 and so on, for every full block so numbered.  Blocks are counted from the front; the
 length block comes after all message blocks.  fresh and corrected can be given another compression.
 """
 
 import sys
 
+from form_ref import HEAD, bits_of, head, old_head, width_of
 import simd_ref as ref
 
 SPAN = 16
-WIDTH_BYTES, LENGTH_BYTES = 2, 4
-HEAD = WIDTH_BYTES + LENGTH_BYTES
-
-
-def head(width, bits):
-    return width.to_bytes(WIDTH_BYTES, "little") + bits.to_bytes(LENGTH_BYTES, "little")
 
 
 def kept(width, bits):
@@ -63,6 +59,10 @@ def fits(width, bits, old, block):
             and block <= length_number(width, bits))
 
 
+def as_old(index):
+    return old_head(width_of(index), bits_of(index)) + index[HEAD:]
+
+
 def start(width, bits, block):
     """The last kept state at or before the block, by its number; None where none is kept."""
     return max((number for number in kept(width, bits) if number <= block), default=None)
@@ -81,9 +81,13 @@ def corrected(width, data, bits, old, block, compress=ref.compress):
 # Self check
 
 # (width, bits, bytes of the index, number of the length block), typed.
-SIZES = ((224, 0, 6, 0), (256, 1, 6, 1), (256, 511, 6, 1), (224, 512, 70, 1), (256, 513, 70, 2), (256, 8192, 70, 16),
-         (256, 8703, 70, 17), (256, 8704, 134, 17), (224, 8705, 134, 18), (256, 524288, 4102, 1024),
-         (384, 1023, 6, 1), (512, 1024, 134, 1), (384, 17407, 134, 17), (512, 17408, 262, 17), (512, 524288, 4102, 512))
+SIZES = ((224, 0, 10, 0), (256, 1, 10, 1), (256, 511, 10, 1), (224, 512, 74, 1), (256, 513, 74, 2), (256, 8192, 74, 16),
+         (256, 8703, 74, 17), (256, 8704, 138, 17), (224, 8705, 138, 18), (256, 524288, 4106, 1024),
+         (384, 1023, 10, 1), (512, 1024, 138, 1), (384, 17407, 138, 17), (512, 17408, 266, 17), (512, 524288, 4106, 512))
+# (width, bits, bytes of the index) of records that are not run here, typed.
+LONG_SIZES = ((256, 4294967295, 33554442), (224, 4294967296, 33554442), (512, 4294967808, 33554442),
+              (256, 4294967808, 33554506), (224, 18446744073709551615, 144115188075855882),
+              (384, 18446744073709551615, 144115188075855882))
 # (width, bits, block, where a correction starts), typed.
 STARTS = ((256, 511, 0, None), (256, 511, 1, None), (256, 512, 0, 0), (256, 513, 2, 0), (224, 8192, 15, 0),
           (224, 8192, 16, 0), (224, 8193, 17, 0), (256, 8704, 15, 0), (256, 8704, 16, 16), (256, 8704, 17, 16),
@@ -100,13 +104,18 @@ def self_check():
     for width, bits, block, expected in STARTS:
         if start(width, bits, block) != expected:
             failures.append("the start of %d bits at %d from block %d" % (bits, width, block))
-    for width, typed in ((256, "000101420000"), (512, "000201840000")):
+    for width, bits, expected in LONG_SIZES:
+        if size(width, bits) != expected:
+            failures.append("the size of %d bits at %d" % (bits, width))
+    for width, typed in ((256, "00010142000000000000"), (512, "00020184000000000000")):
         bits = 33 * ref.block_bits(width) + 1
         data = bytes(7 * k % 251 for k in range(bits // 8 + 1))
         states = [ref.state_to_bytes(state) for state in ref.states_between(width, data, bits)]
         index, digest, count = fresh(width, data, bits)
         if index.hex() != typed + b"".join(states[k] for k in (0, 16, 32)).hex():
             failures.append("the index of 33 blocks and a bit at %d" % width)
+        if as_old(index).hex() != typed[:12] + index[10:].hex():
+            failures.append("the old index of 33 blocks and a bit at %d" % width)
         if (digest, count) != (states[-1][:width // 8], 35):
             failures.append("the digest of 33 blocks and a bit at %d" % width)
         for block, skipped in ((16, 16), (31, 16), (32, 32), (33, 32), (34, 32)):

@@ -11,11 +11,11 @@ Run alone, it prints the listing of the tape on standard input.
 
 import sys
 
+import form_ref
 import quote_ref
 import simd_ref as ref
 
 OPEN, FULL, PART, TAKE, STOP = 1, 2, 3, 4, 5
-BITS_MAX = 4294967295
 TAPE_MAX = 65536
 
 
@@ -74,7 +74,7 @@ def run(tape, room=None):
                 width, message = None, None
             else:
                 count, data = (256, rest) if command == FULL else (rest[0], rest[1:])
-                if sum(map(len, message)) + count > BITS_MAX:
+                if sum(map(len, message)) + count > form_ref.BITS_MAX:
                     raise Refused(4, at)
                 message.append(bit_string(data, count))
             at = following

@@ -68,7 +68,7 @@ rest-whole : (f : Family) (whole size blocks : ℕ) → size ≡ blockBytes f �
 rest-whole small whole size blocks one full some = omega arith
 rest-whole large whole size blocks one full some = omega arith
 
-few-blocks : (f : Family) (bits blocks : ℕ) → blocks ≡ bits / blockBits f → bits < 2 ^ 40 → blocks < 2 ^ 32
+few-blocks : (f : Family) (bits blocks : ℕ) → blocks ≡ bits / blockBits f → bits < 2 ^ 64 → blocks < 2 ^ 56
 few-blocks small bits blocks counted short = omega arith
 few-blocks large bits blocks counted short = omega arith
 
@@ -123,8 +123,8 @@ module _ {width used : ℕ} {state tail src : List ℕ} {count scale blocks : �
       bits-append (take used (bitsOf tail)) (take (8 * length src) (bitsOf src)) (bits-take used (bitsOf tail) (bits-bitsOf tail))
       (bits-take (8 * length src) (bitsOf src) (bits-bitsOf src))
 
-  pub few : blocks < 2 ^ 32
-  few = few-blocks f (used + count) blocks (x .counted) (omega (arith, x .ready .below, x .ready .short, block-small f))
+  pub few : blocks < 2 ^ 56
+  few = few-blocks f (used + count) blocks (x .counted) (x .ready .short)
 
   pub room-left : blocks ≡ 0 → q + length src ≤ length tail
   room-left none = omega (arith, x .ready .bytes, room-within f used count blocks (length src) (x .ready .below) (x .counted) none (x .ready .source))

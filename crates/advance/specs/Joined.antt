@@ -20,7 +20,7 @@ pub record Ready (width used : ℕ) (state tail src : List ℕ) (count : ℕ) : 
   pub state-clear : allZero (drop (stateWords (familyOf width)) state) ≡ true
   pub tail-clear : clear used tail ≡ true
   pub source : length src ≡ (count + 7) / 8
-  pub short : count < 2 ^ 33
+  pub short : used + count < 2 ^ 64
 
 -- Fed n bits of a piece, which make k blocks full: the state after these, the tail that is left, and their number.
 pub record Joins (width used : ℕ) (state tail src : List ℕ) (n k : ℕ) (state′ tail′ : List ℕ) (r : ℕ) : Type 0 where

@@ -12,7 +12,7 @@ ghost use Rattle.advance.specs.Joined.{Ready, Joins};
 
 // The bytes of a number of blocks.
 fn bytes_of_blocks(width: u16, blocks: usize) -> usize
-    requires { ⌜ blocks < 2 ^ 32 ⌝ }
+    requires { ⌜ blocks < 2 ^ 56 ⌝ }
     ensures { λ r. ⌜ r ≡ blockBytes (familyOf width) * blocks ⌝ }
 {
     if width <= 256 {

@@ -4,7 +4,7 @@ use mathlib.Core.List.{List}
 use mathlib.Core.Path.{_≡_, sym, ap, _∙_}
 use Prim.Native.Nat.{ℕ, _+_, _*_, _^_, _<_, _≤_}
 use native.Mathlib.Omega.{arith}
-use borrow.Author.Tests.{le-leb}
+use borrow.Author.Tests.{le-leb, ne-eqb}
 use lib.Dec.{leb, lit<}
 use lib.ListN.{length, getD, take, length-append}
 use Rattle.simd.specs.Basic.{Family, small, large, familyOf, isWidth, blockBytes, blockBits, digestBytes}
@@ -12,6 +12,7 @@ use Rattle.simd.specs.Constants.{start}
 use Rattle.simd.specs.Message.{message, block, messageBlocks}
 use Rattle.simd.specs.Hash.{digest, compressions}
 use Rattle.form.specs.Head.{headBytes, head}
+use Rattle.form.specs.Size.{oldHeadBytes}
 use Rattle.form.proofs.Forming.{length-head, written-width, written-bits}
 use Rattle.hash.specs.Open.{limit, first, pieceRefusal}
 use Rattle.hash.proofs.Feeding.{at-widths, start-length, length-message}
@@ -73,6 +74,20 @@ index-fits width m known short =
 pub fits-own-length : (width : ℕ) (m : List ℕ) (n : ℕ) → length m ≤ limit → fits width n (indexOf width m) ≡ true → length m ≡ n
 unfolding indexOf
 fits-own-length width m n short good = sym (written-bits width (length m) _ (omega arith)) ∙ fit good .bits-read
+
+-- An index with a head of the old size, whose bit length has 4 bytes, fits no width and no message, whatever its states are.
+old-sizes : (f g : Family) (j k : ℕ) → oldHeadBytes + blockBytes f * j ≡ headBytes + blockBytes g * k → ⊥
+old-sizes small small j k same = omega arith
+old-sizes small large j k same = omega arith
+old-sizes large small j k same = omega arith
+old-sizes large large j k same = omega arith
+
+pub old-index-refused : (f : Family) (k : ℕ) (index : List ℕ) → length index ≡ oldHeadBytes + blockBytes f * k
+    → (width n b : ℕ) → fitRefusal width n index b ≡ 15
+unfolding fitRefusal fits
+old-index-refused f k index size width n b =
+    let g = familyOf width in
+    rw (ne-eqb (length index) (indexBytes width n) (λ same. old-sizes f g k (kept g n) (sym size ∙ same)))
 
 -- From the index of an earlier message as long as m and equal to it in all blocks before b, a correction makes what a fresh run of m makes.
 pub corrected-fresh : (width : ℕ) → isWidth width ≡ true → (earlier m : List ℕ) → length earlier ≡ length m

@@ -131,12 +131,12 @@ pub read-two : (form : List ℕ) (a b : ℕ) → a ≡ getD form 0 0 → b ≡ g
 unfolding formWidth number sum
 read-two form a b first second = omega arith
 
-pub word-read : (form : List ℕ) (n i : ℕ) → i < n → number 4 (drop (headBytes + 4 * i) form) ≡ getD (wordsOf n (drop headBytes form)) i 0
+pub word-read : (bytes : List ℕ) (at n i : ℕ) → i < n → number 4 (drop (at + 4 * i) bytes) ≡ getD (wordsOf n (drop at bytes)) i 0
 unfolding number wordAt
-word-read form n i below =
-    sum-ext 4 (λ t. getD (drop (headBytes + 4 * i) form) t 0 * 256 ^ t) (λ t. getD (drop headBytes form) (4 * i + t) 0 * 256 ^ t)
+word-read bytes at n i below =
+    sum-ext 4 (λ t. getD (drop (at + 4 * i) bytes) t 0 * 256 ^ t) (λ t. getD (drop at bytes) (4 * i + t) 0 * 256 ^ t)
     (λ t _.
-    let place : headBytes + 4 * i + t ≡ headBytes + (4 * i + t) = omega arith in
+    let place : at + 4 * i + t ≡ at + (4 * i + t) = omega arith in
     ap (λ (b : ℕ). b * 256 ^ t)
-    (getD-drop (headBytes + 4 * i) form t 0 ∙ ap (λ (k : ℕ). getD form k 0) place ∙ sym (getD-drop headBytes form (4 * i + t) 0)))
-    ∙ sym (getD-wordsOf n (drop headBytes form) i below)
+    (getD-drop (at + 4 * i) bytes t 0 ∙ ap (λ (k : ℕ). getD bytes k 0) place ∙ sym (getD-drop at bytes (4 * i + t) 0)))
+    ∙ sym (getD-wordsOf n (drop at bytes) i below)

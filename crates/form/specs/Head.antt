@@ -6,7 +6,7 @@ use Rattle.little_endian.specs.Numbers.{littleEndian, number}
 
 -- The bytes of the bit length, and of both.
 abbrev pub lengthBytes : ℕ
-lengthBytes = 4
+lengthBytes = 8
 
 abbrev pub headBytes : ℕ
 headBytes = 2 + lengthBytes

@@ -24,7 +24,7 @@ use Rattle.little_endian.proofs.Writing.{state-bytes}
 use Rattle.hash_parts.specs.Legal.{legalParts}
 use Rattle.hash.specs.Open.{family, used, reached, pending, holding, legal, openRefusal, opened, openAnswer, fullBlocks, advanced}
 use Rattle.hash.specs.Open.{pieceRefusal, feedRefusal, fed, feedAnswer, finalOf, digestOf, takeRefusal, taken, takeAnswer, written}
-use Rattle.hash.specs.Form.{formBytes, formOf, formFamily, hashOf, storeRefusal, storeAnswer, restoreRefusal, restoreAnswer}
+use Rattle.hash.specs.Form.{formBytes, formOf, formFamily, current, hashOf, storeRefusal, restoreRefusal, restoreAnswer}
 use Rattle.advance.specs.Joined.{Ready, joinedBits, Joins}
 use Rattle.hash.specs.declared.Hash.{Hash}
 use Rattle.bits.proofs.Zeros.{padded-take}
@@ -32,7 +32,9 @@ use Rattle.tail.proofs.Sizes.{words-within}
 use Rattle.tail.proofs.Closing.{front-bits}
 use Rattle.hash.proofs.Holding.{legal-width, legal-state, legal-tail, length-reached}
 use Rattle.hash.proofs.Feeding.{length-message}
+use Rattle.form.proofs.Current.{current-width}
 use Rattle.hash_parts.proofs.Refusing.{passed}
+use Rattle.hash_parts.proofs.Accepted.{form-facts}
 use Rattle.hash.proofs.Refusing.{Accepted, accepted, written-refused}
 use Rattle.hash.proofs.Digests.{digest-room}
 
@@ -69,21 +71,19 @@ take-refused h out r same some =
     (taken-refused r h some ∙ ap (λ (r : ℕ). taken r h) same, sym (written-refused r (digestOf h) out some) ∙ ap (λ (r : ℕ). written r (digestOf h) out) same)
 
 pub store-refused : (h : Hash) (out : List ℕ) (r : ℕ) → r ≡ storeRefusal h out → (r ≡ 0 → ⊥)
-    → (record { hash = h; refusal = r } ≡ storeAnswer h out) × (out ≡ written (storeRefusal h out) (formOf h) out)
-unfolding storeAnswer
-store-refused h out r same some =
-    (λ i. record { hash = h; refusal = same i }, sym (written-refused r (formOf h) out some) ∙ ap (λ (r : ℕ). written r (formOf h) out) same)
+    → (r ≡ storeRefusal h out) × (out ≡ written (storeRefusal h out) (formOf h) out)
+store-refused h out r same some = (same, sym (written-refused r (formOf h) out some) ∙ ap (λ (r : ℕ). written r (formOf h) out) same)
 
 opened-refused : (r : ℕ) (h : Hash) → (r ≡ 0 → ⊥) → record { hash = holding 0 0 [] []; refusal = r } ≡ opened r h
 unfolding opened
 opened-refused zero h some = absurd (some refl)
 opened-refused (suc r) h some = refl
 
-pub restore-refused : (form : List ℕ) (zeros : Hash) (r : ℕ) → zeros ≡ holding 0 0 [] [] → r ≡ restoreRefusal form → (r ≡ 0 → ⊥)
+pub restore-refused : (form : List ℕ) (zeros : Hash) (r : ℕ) → zeros ≡ holding 0 0 [] [] → r ≡ restoreRefusal (current form) → (r ≡ 0 → ⊥)
     → record { hash = zeros; refusal = r } ≡ restoreAnswer form
 unfolding restoreAnswer
 restore-refused form zeros r blank same some =
-    (λ i. record { hash = blank i; refusal = r }) ∙ opened-refused r (hashOf form) some ∙ ap (λ (r : ℕ). opened r (hashOf form)) same
+    (λ i. record { hash = blank i; refusal = r }) ∙ opened-refused r (hashOf (current form)) some ∙ ap (λ (r : ℕ). opened r (hashOf (current form))) same
 
 -- Opened.
 pub open-refused : (width : ℕ) (zeros : Hash) → zeros ≡ holding 0 0 [] [] → isWidth width ≡ false → record { hash = zeros; refusal = 1 } ≡ openAnswer width
@@ -107,9 +107,9 @@ feed-facts h piece count r same none =
     let first = passed (legal h) (pieceRefusal (h .bits) piece count) 4 (sym same ∙ none) in
     record { good = first .0; whole = accepted (h .bits) piece count (first .1) }
 
-used-below : (f : Family) (n : ℕ) → n % blockBits f < blockBits f
-used-below small n = omega arith
-used-below large n = omega arith
+used-below : (f : Family) (n : ℕ) → (n % blockBits f < blockBits f) × (n % blockBits f ≤ n)
+used-below small n = (omega arith, omega arith)
+used-below large n = (omega arith, omega arith)
 
 -- The piece is cut to b bytes.
 module _ (h : Hash) (piece : List ℕ) (count : ℕ) (a : Accepts h piece count) (b : ℕ) (cut : b ≡ (count + 7) / 8) where
@@ -122,11 +122,11 @@ module _ (h : Hash) (piece : List ℕ) (count : ℕ) (a : Accepts h piece count)
       record {
         words = words;
         bytes = bytes;
-        below = rw same (used-below (family h) (h .bits));
+        below = rw same (used-below (family h) (h .bits) .0);
         state-clear = legal-state h (a .good);
         tail-clear = rw same (legal-tail h (a .good));
         source = omega (arith, length-take (b - 0) piece, a .whole .within);
-        short = omega (arith, a .whole .short);
+        short = omega (arith, a .whole .short, same, used-below (family h) (h .bits) .1);
       }
 
   -- The bits of the bytes used are the piece's.
@@ -215,9 +215,8 @@ pub store-answered : (h : Hash) (out : List ℕ) (r : ℕ) → r ≡ storeRefusa
     → (size k : ℕ) → size ≡ blockBytes (family h) → k ≡ formBytes (family h) → (bytes : List ℕ)
     → bytes ≡ littleEndian 2 (h .width) ++ littleEndian lengthBytes (h .bits) ++ take size (bytesOf (h .state)) ++ take size (h .tail)
     → length bytes ≡ k
-    → (record { hash = h; refusal = 0 } ≡ storeAnswer h out)
-    × (bytes ++ postOf 0 (k - 0) out ≡ written (storeRefusal h out) (formOf h) out)
-unfolding storeAnswer formOf reached
+    → (0 ≡ storeRefusal h out) × (bytes ++ postOf 0 (k - 0) out ≡ written (storeRefusal h out) (formOf h) out)
+unfolding formOf reached
 store-answered h out r same none words long size k block whole bytes wrote count =
     let good = store-facts h out r same none .0 in
     let f = family h in
@@ -231,23 +230,27 @@ store-answered h out r same none words long size k block whole bytes wrote count
     let form : bytes ≡ formOf h =
     wrote ∙ λ i. littleEndian 2 (h .width) ++ littleEndian lengthBytes (h .bits) ++ state i ++ take (block i) (h .tail) in
     let zero-refusal = sym same ∙ none in (
-      (λ i. record { hash = h; refusal = (sym none ∙ same) i }),
+      sym none ∙ same,
       rw zero-refusal (front-written k bytes out count ∙ ap (λ (b : List ℕ). written 0 b out) form),
     )
 
--- Restored.
+-- Restored. What is read of a form goes by its own width, which is that of the form that it stands for.
 pub block-size : (form : List ℕ) (width size : ℕ) → width ≡ formWidth form → size ≡ blockBytes (familyOf width) → size ≡ blockBytes (formFamily form)
 block-size form width size wide block = block ∙ ap (λ (w : ℕ). blockBytes (familyOf w)) wide
 
-pub restore-answered : (form : List ℕ) (r : ℕ) → r ≡ restoreRefusal form → r ≡ 0 → (width bits size : ℕ) (state tail : List ℕ)
-    → width ≡ formWidth form → bits ≡ formBits form → size ≡ blockBytes (familyOf width)
-    → state ≡ padded 32 (wordsOf (size / 4) (drop headBytes form)) → tail ≡ padded 128 (drop (headBytes + size) form)
+pub restore-size : (form : List ℕ) (r : ℕ) → r ≡ restoreRefusal (current form) → r ≡ 0 → length (current form) ≡ formBytes (formFamily form)
+restore-size form r same none =
+    form-facts (current form) (sym same ∙ none) .size ∙ ap (λ (w : ℕ). formBytes (familyOf w)) (current-width form)
+
+pub restore-answered : (form : List ℕ) (r : ℕ) → r ≡ restoreRefusal (current form) → r ≡ 0 → (width bits : ℕ) (state tail : List ℕ)
+    → width ≡ formWidth form → bits ≡ formBits (current form)
+    → state ≡ padded 32 (wordsOf (stateWords (formFamily form)) (drop headBytes (current form)))
+    → tail ≡ padded 128 (drop (headBytes + blockBytes (formFamily form)) (current form))
     → record { hash = record { width = width; bits = bits; state = state; tail = tail }; refusal = 0 } ≡ restoreAnswer form
 unfolding restoreAnswer opened hashOf
-restore-answered form r same none width bits size state tail wide length-read block words rest =
-    let whole = block-size form width size wide block in
-    let quarter : size / 4 ≡ stateWords (formFamily form) = omega arith in
-    let state-read = words ∙ ap (λ (n : ℕ). padded 32 (wordsOf n (drop headBytes form))) quarter in
-    let tail-read = rest ∙ ap (λ (n : ℕ). padded 128 (drop (headBytes + n) form)) whole in
+restore-answered form r same none width bits state tail wide length-read words rest =
+    let named = sym (current-width form) in
+    let state-read = words ∙ ap (λ (w : ℕ). padded 32 (wordsOf (stateWords (familyOf w)) (drop headBytes (current form)))) named in
+    let tail-read = rest ∙ ap (λ (w : ℕ). padded 128 (drop (headBytes + blockBytes (familyOf w)) (current form))) named in
     rw (sym same ∙ none)
-    (λ i. record { hash = record { width = wide i; bits = length-read i; state = state-read i; tail = tail-read i }; refusal = 0 })
+    (λ i. record { hash = record { width = (wide ∙ named) i; bits = length-read i; state = state-read i; tail = tail-read i }; refusal = 0 })

@@ -1,6 +1,6 @@
 -- The words of a state fit in 32 bits: a starting state's by a test, a compression's because its last four steps write every word anew.
 use mathlib.Core.Bool.{Bool, true, false}
-use mathlib.Core.List.{List, [], _∷_, _++_}
+use mathlib.Core.List.{List, [], _++_}
 use mathlib.Core.Path.{_≡_, sym, ap, _∙_}
 use Prim.Native.Nat.{ℕ, zero, suc, _+_, _*_, _-_, _%_, _^_, _<_, _≤_}
 use native.Mathlib.Nat.{mul-mod-left, mul-assoc}
@@ -14,6 +14,7 @@ use Rattle.simd.specs.Constants.{start, start224, start256, start384, start512}
 use Rattle.simd.specs.Message.{block}
 use Rattle.simd.specs.Steps.{State, rotl, words, state, rotation, step, steps, mixed, compression}
 use Rattle.simd.specs.Hash.{chain}
+use Rattle.laws.proofs.Bounds.{below-append, below-table}
 use Rattle.laws.proofs.Table.{every, every-at}
 use Rattle.laws.proofs.Words.{add-lt, rotl-lt}
 use Rattle.hash.proofs.Feeding.{at-widths}
@@ -21,17 +22,6 @@ use Rattle.hash.proofs.Feeding.{at-widths}
 -- Every word of a list fits. Past its end stands 0.
 abbrev pub Fits : List ℕ → Type 0
 Fits l = (i : ℕ) → getD l i 0 < 2 ^ 32
-
-table-fits : (n : ℕ) (g : ℕ → ℕ) → ((j : ℕ) → g j < 2 ^ 32) → Fits (table n g)
-unfolding table
-table-fits zero g fits i = lit< tt
-table-fits (suc n) g fits zero = fits zero
-table-fits (suc n) g fits (suc i) = table-fits n (λ k. g (suc k)) (λ k. fits (suc k)) i
-
-append-fits : (l m : List ℕ) → Fits l → Fits m → Fits (l ++ m)
-append-fits [] m left right i = right i
-append-fits (x ∷ l) m left right zero = left zero
-append-fits (x ∷ l) m left right (suc i) = append-fits l m (λ k. left (suc k)) right i
 
 -- A word rotated is a word. By 32 and more, nothing of the left shift stays, and all of the right one.
 shifted-out : (k x : ℕ) → 32 ≤ k → x * 2 ^ k % 2 ^ 32 ≡ 0
@@ -56,11 +46,11 @@ rotl-fits (suc k) x fits = elim (decLt (suc k) 32) [
 module _ (f : Family) (i : ℕ) (w : List ℕ) (s : State) where
   new-a : Fits (step f i w s .a)
   unfolding step
-  new-a = table-fits (rows f) _ (λ j. add-lt _ _)
+  new-a = below-table (2 ^ 32) (rows f) _ (λ j. add-lt _ _)
 
   new-b : Fits (s .a) → Fits (step f i w s .b)
   unfolding step
-  new-b fits = table-fits (rows f) _ (λ j. rotl-fits (rotation i i) (getD (s .a) j 0) (fits j))
+  new-b fits = below-table (2 ^ 32) (rows f) _ (λ j. rotl-fits (rotation i i) (getD (s .a) j 0) (fits j))
 
 four-steps : (f : Family) (i j k l : ℕ) (u v w x : List ℕ) (s : State) → Fits (words (step f l x (step f k w (step f j v (step f i u s)))))
 unfolding words step
@@ -72,8 +62,8 @@ four-steps f i j k l u v w x s =
     let b₂ = new-b f j v s₁ (new-a f i u s) in
     let b₃ = new-b f k w s₂ (new-a f j v s₁) in
     let b₄ = new-b f l x s₃ (new-a f k w s₂) in
-    append-fits (s₄ .a ++ s₄ .b ++ s₄ .c) (s₄ .d)
-    (append-fits (s₄ .a ++ s₄ .b) (s₄ .c) (append-fits (s₄ .a) (s₄ .b) (new-a f l x s₃) b₄) b₃)
+    below-append (2 ^ 32) (s₄ .a ++ s₄ .b ++ s₄ .c) (s₄ .d)
+    (below-append (2 ^ 32) (s₄ .a ++ s₄ .b) (s₄ .c) (below-append (2 ^ 32) (s₄ .a) (s₄ .b) (new-a f l x s₃) b₄) b₃)
     b₂
 
 steps-fit : (f : Family) (w : List (List ℕ)) (n : ℕ) (s : State) → Fits (words (steps f w (suc (suc (suc (suc n)))) s))

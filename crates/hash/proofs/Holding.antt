@@ -20,7 +20,7 @@ pub record Sized (h : Hash) : Type 0 where
 pub record Value (h : Hash) : Type 0 where
   pub sized : Sized h
   pub width-fits : h .width < 2 ^ 16
-  pub bits-fit : h .bits < 2 ^ 32
+  pub bits-fit : h .bits < 2 ^ 64
   pub word-fits : (i : ℕ) → getD (h .state) i 0 < 2 ^ 32
 
 pub length-reached : (h : Hash) → length (h .state) ≡ 32 → length (reached h) ≡ stateWords (family h)

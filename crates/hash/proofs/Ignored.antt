@@ -14,7 +14,7 @@ use Rattle.laws.proofs.Bits.{length-bitsOf}
 use Rattle.bits.specs.Zero.{clear}
 use Rattle.form.specs.Head.{headBytes, formWidth, formBits}
 use Rattle.hash.specs.Open.{limit, family, legal, first, opened, pieceRefusal, feedRefusal, fed, feedAnswer}
-use Rattle.hash.specs.Form.{formBytes, formFamily, hashOf, storeRefusal, storeAnswer, restoreRefusal, restoreAnswer}
+use Rattle.hash.specs.Form.{formBytes, formFamily, current, hashOf, storeRefusal, storeAnswer, restoreRefusal, restoreAnswer}
 use Rattle.hash.specs.declared.Hash.{Hash}
 
 -- Two pieces agree up to a count. If one has fewer bits, so has the other.
@@ -53,7 +53,7 @@ unfolding pieceRefusal
 piece-not-3 n piece count =
     neither (leb count (8 * length piece)) (neither (leb (n + count) limit) (λ e. omega arith) (λ e. omega arith)) (λ e. omega arith)
 
-fed-refusal : (r : ℕ) (h : Hash) (m : List ℕ) → fed r h m .refusal ≡ r
+pub fed-refusal : (r : ℕ) (h : Hash) (m : List ℕ) → fed r h m .refusal ≡ r
 unfolding fed
 fed-refusal zero h m = refl
 fed-refusal (suc r) h m = refl
@@ -69,9 +69,9 @@ unfolding opened
 opened-refusal zero h = refl
 opened-refusal (suc r) h = refl
 
-pub restore-not-3 : (form : List ℕ) → restoreAnswer form .refusal ≡ 3 → ⊥
-unfolding restoreAnswer restoreRefusal
-restore-not-3 form e =
+form-not-3 : (form : List ℕ) → restoreRefusal form ≡ 3 → ⊥
+unfolding restoreRefusal
+form-not-3 form =
     neither (leb 2 (length form))
     (neither (isWidth (formWidth form))
     (neither (eqb (length form) (formBytes (formFamily form)))
@@ -80,7 +80,10 @@ restore-not-3 form e =
     (λ (e : 8 ≡ 3). omega arith))
     (λ (e : 1 ≡ 3). omega arith))
     (λ (e : 8 ≡ 3). omega arith)
-    (sym (opened-refusal _ (hashOf form)) ∙ e)
+
+pub restore-not-3 : (form : List ℕ) → restoreAnswer form .refusal ≡ 3 → ⊥
+unfolding restoreAnswer
+restore-not-3 form e = form-not-3 (current form) (sym (opened-refusal _ (hashOf (current form))) ∙ e)
 
 pub store-not-3 : (h : Hash) (out : List ℕ) → storeAnswer h out .refusal ≡ 3 → ⊥
 unfolding storeAnswer storeRefusal

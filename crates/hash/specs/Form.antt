@@ -1,4 +1,5 @@
--- The stored form of a hash, elsewhere a serialized hashing context. When a byte string is one stands in the crate `hash_parts`.
+-- The stored form of a hash, elsewhere a serialized hashing context. When a byte string is one stands in the crate `hash_parts`, and what a form of
+-- the old size stands for, `current`, in the crate `form`.
 use mathlib.Core.Bool.{cond}
 use mathlib.Core.List.{List, _++_}
 use Prim.Native.Nat.{ℕ, _+_}
@@ -11,7 +12,8 @@ use Rattle.hash.specs.Open.{family, legal, reached, opened}
 use Rattle.hash.specs.declared.Hash.{Hash}
 use Rattle.hash.specs.declared.Opened.{Opened}
 use Rattle.hash.specs.declared.Stored.{Stored}
-pub use Rattle.hash_parts.specs.Form.{formBytes, formFamily}
+pub use Rattle.form.specs.Size.{formBytes, oldFormBytes, formFamily}
+unfoldable pub use Rattle.form.specs.Size.{widened, current}
 unfoldable pub use Rattle.hash_parts.specs.Form.{restoreRefusal}
 
 unfoldable pub formOf : Hash → List ℕ
@@ -24,7 +26,7 @@ storeRefusal h out = cond (legal h) (cond (leb (formBytes (family h)) (length ou
 unfoldable pub storeAnswer : Hash → List ℕ → Stored
 storeAnswer h out = record { hash = h; refusal = storeRefusal h out }
 
--- What a form says.
+-- What a form says, and the answer to it or to an old one.
 unfoldable pub hashOf : List ℕ → Hash
 hashOf form =
     record {
@@ -35,4 +37,4 @@ hashOf form =
     }
 
 unfoldable pub restoreAnswer : List ℕ → Opened
-restoreAnswer form = opened (restoreRefusal form) (hashOf form)
+restoreAnswer form = opened (restoreRefusal (current form)) (hashOf (current form))

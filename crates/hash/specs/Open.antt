@@ -20,7 +20,7 @@ use Rattle.hash.specs.declared.Taken.{Taken}
 
 -- The longest message, in bits.
 abbrev pub limit : ℕ
-limit = 2 ^ 32 - 1
+limit = 2 ^ 64 - 1
 
 abbrev pub family : Hash → Family
 family h = familyOf (h .width)

@@ -12,12 +12,12 @@ ghost use Rattle.hash.specs.Open.{holding, openAnswer, pieceRefusal, fee
 ghost use Rattle.hash.specs.Form.{formOf, storeRefusal, storeAnswer, restoreAnswer};
 
 // The longest message, in bits.
-pub const LIMIT: u64 = 4294967295;
+pub const LIMIT: u64 = 18446744073709551615;
 
 // The words past the family's state and the bits past the tail are 0.
 pub struct Hash {
     pub width: u16,
-    pub bits: u32,
+    pub bits: u64,
     pub state: [u32; 32],
     pub tail: [u8; 128],
 }
@@ -51,9 +51,6 @@ pub fn piece_refusal(bits: u64, piece: &[u8], count: usize) -> u8
 {
     if piece.len() < bits::bytes_of_bits(count) {
         return 2;
-    }
-    if LIMIT < bits {
-        return 4;
     }
     if LIMIT - bits < count as u64 {
         return 4;
@@ -90,6 +87,25 @@ fn no_tail() -> [u8; 128]
     [0u8; 128]
 }
 
+// Writes the stored form of a hash, and answers the refusal's number: what `store` does, where the hash is not wanted back.
+pub fn write_stored(hash: Hash, out: &mut [u8]) -> u8
+    ensures { λ r. ⌜ (r ≡ storeRefusal hash (now (out .entry)))
+        × (now (out .exit) ≡ written (storeRefusal hash (now (out .entry))) (formOf hash) (now (out .entry))) ⌝ }
+{
+    let width = hash.width;
+    let bits = hash.bits;
+    let state = hash.state;
+    let tail = hash.tail;
+    let length = hash_parts::form_bytes(width);
+    let refusal = hash_parts::output_refusal(width, bits, &state, &tail, length, out.len());
+    if refusal != 0 {
+        return refusal;
+    }
+    let size = tail::block_bytes(width);
+    form::write_form(width, bits, state, &tail, size, &mut out[0..length]);
+    0
+}
+
 impl Hash {
     // Opens a hash at a width. Refusal 1.
     pub fn open(width: u16) -> Opened
@@ -115,7 +131,7 @@ impl Hash {
         ensures { λ r. ⌜ r ≡ feedAnswer self (now (piece .entry)) count ⌝ }
     {
         let width = self.width;
-        let bits = self.bits as u64;
+        let bits = self.bits;
         let mut state = self.state;
         let mut tail = self.tail;
         let refusal = feed_refusal(width, bits, &state, &tail, piece, count);
@@ -129,7 +145,7 @@ impl Hash {
         let bytes = bits::bytes_of_bits(count);
         let used = tail::used_bits(width, bits);
         let full = advance::advance(width, used, &mut state, &mut tail, &piece[0..bytes], count);
-        self.bits = (bits + count as u64) as u32;
+        self.bits = bits + count as u64;
         self.state = state;
         self.tail = tail;
         Fed {
@@ -145,7 +161,7 @@ impl Hash {
             × (now (out .exit) ≡ written (takeRefusal self (now (out .entry))) (digestOf self) (now (out .entry))) ⌝ }
     {
         let width = self.width;
-        let bits = self.bits as u64;
+        let bits = self.bits;
         let mut state = self.state;
         let tail = self.tail;
         let length = tail::digest_bytes(width);
@@ -166,32 +182,19 @@ impl Hash {
         }
     }
 
-    // Writes the stored form: 134 or 262 bytes. Refusals 5, 6.
+    // Writes the stored form: 138 or 266 bytes. Refusals 5, 6.
     pub fn store(self, out: &mut [u8]) -> Stored
         ensures { λ r. ⌜ (r ≡ storeAnswer self (now (out .entry)))
             × (now (out .exit) ≡ written (storeRefusal self (now (out .entry))) (formOf self) (now (out .entry))) ⌝ }
     {
-        let width = self.width;
-        let bits = self.bits as u64;
-        let state = self.state;
-        let tail = self.tail;
-        let length = hash_parts::form_bytes(width);
-        let refusal = hash_parts::output_refusal(width, bits, &state, &tail, length, out.len());
-        if refusal != 0 {
-            return Stored {
-                hash: self,
-                refusal,
-            };
-        }
-        let size = tail::block_bytes(width);
-        form::write_form(width, bits, state, &tail, size, &mut out[0..length]);
+        let refusal = write_stored(self, out);
         Stored {
             hash: self,
-            refusal: 0,
+            refusal,
         }
     }
 
-    // The hash of a stored form. Refusals 8, 1, 8, 9.
+    // The hash of a stored form, of today's size or the old one. Refusals 8, 1, 8, 9.
     pub fn restore(form: &[u8]) -> Opened
         ensures { λ r. ⌜ r ≡ restoreAnswer (now (form .entry)) ⌝ }
     {
@@ -201,10 +204,10 @@ impl Hash {
             return Opened { hash, refusal };
         }
         let width = form::read_width(form);
-        let bits = form::read_bits(form);
         let size = tail::block_bytes(width);
-        let state = form::read_state(form, size / 4);
-        let tail = form::read_tail(form, form::HEAD_BYTES + size);
+        let bits = form::form_bits(form, size);
+        let state = form::form_state(form, size);
+        let tail = form::form_tail(form, size);
         let hash = Hash {
             width,
             bits,

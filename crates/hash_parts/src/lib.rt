@@ -1,13 +1,16 @@
 // What is asked of an open hash by its parts: its starting state, whether they are legal, and whether a stored form is one.
 
-ghost use mathlib.Core.Bool.{cond};
+ghost use mathlib.Core.Bool.{cond, _||_};
 ghost use mathlib.Core.Path.{_≡_};
-ghost use lib.Dec.{leb};
-ghost use Rattle.simd.specs.Basic.{familyOf};
+ghost use lib.Dec.{leb, eqb};
+ghost use Prim.Native.Nat.{_+_, _*_, _≤_};
+ghost use Rattle.simd.specs.Basic.{familyOf, blockBytes};
 ghost use Rattle.simd.specs.Constants.{start};
 ghost use Rattle.bits.specs.Zero.{padded};
 ghost use Rattle.hash_parts.specs.Legal.{legalParts};
-ghost use Rattle.hash_parts.specs.Form.{formBytes, restoreRefusal};
+ghost use Rattle.form.specs.Head.{headBytes};
+ghost use Rattle.form.specs.Size.{formBytes, oldFormBytes, current};
+ghost use Rattle.hash_parts.specs.Form.{restoreRefusal};
 
 // The starting state of a width.
 pub fn start_state(width: u16) -> [u32; 32]
@@ -56,16 +59,42 @@ pub fn output_refusal(
     }
 }
 
+// The bytes of a head, and of a state and a block behind it.
+fn with_head(head: usize, width: u16) -> usize
+    requires { ⌜ head ≤ headBytes ⌝ }
+    ensures { λ r. ⌜ r ≡ head + 2 * blockBytes (familyOf width) ⌝ }
+{
+    head + 2 * tail::block_bytes(width)
+}
+
 // The bytes of a form at a width.
 pub fn form_bytes(width: u16) -> usize
     ensures { λ r. ⌜ r ≡ formBytes (familyOf width) ⌝ }
 {
-    form::HEAD_BYTES + 2 * tail::block_bytes(width)
+    with_head(form::HEAD_BYTES, width)
+}
+
+// Those of an old form.
+fn old_form_bytes(width: u16) -> usize
+    ensures { λ r. ⌜ r ≡ oldFormBytes (familyOf width) ⌝ }
+{
+    with_head(form::OLD_HEAD_BYTES, width)
+}
+
+// Whether a form at a width may have so many bytes: those of today, or of an old one.
+fn is_form_size(width: u16, length: usize) -> bool
+    ensures { λ r. ⌜ r ≡ (eqb length (formBytes (familyOf width)) || eqb length (oldFormBytes (familyOf width))) ⌝ }
+{
+    let full = form_bytes(width);
+    if full <= length {
+        return length == full;
+    }
+    length == old_form_bytes(width)
 }
 
 // Why a byte string is no form, or 0.
 pub fn restore_refusal(form: &[u8]) -> u8
-    ensures { λ r. ⌜ r ≡ restoreRefusal (now (form .entry)) ⌝ }
+    ensures { λ r. ⌜ r ≡ restoreRefusal (current (now (form .entry))) ⌝ }
 {
     let length = form.len();
     if length < 2 {
@@ -75,11 +104,12 @@ pub fn restore_refusal(form: &[u8]) -> u8
     if !expansion::is_width(width) {
         return 1;
     }
-    if length != form_bytes(width) {
+    if !is_form_size(width, length) {
         return 8;
     }
-    let bits = form::read_bits(form) as u64;
-    let middle = form::HEAD_BYTES + tail::block_bytes(width);
+    let size = tail::block_bytes(width);
+    let bits = form::form_bits(form, size);
+    let middle = length - size;
     if bits::bits_zero(&form[middle..length], tail::used_bits(width, bits)) {
         0
     } else {

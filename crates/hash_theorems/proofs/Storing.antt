@@ -11,14 +11,16 @@ use lib.ListN.{length, getD, take, drop, length-drop, length-append, take-append
 use lib.Seq.{getD-drop, getD-take, drop-at, take-add}
 use Rattle.simd.specs.Basic.{familyOf, blockBytes, blockBits, stateWords, wordsOf, bytesOf}
 use Rattle.laws.proofs.Bits.{getD-bitsOf, getD-take-past}
+use Rattle.laws.proofs.Bounds.{below-take}
 use Rattle.laws.proofs.LittleEndian.{length-bytesOf, length-wordsOf, words-bytes, bytes-words, sum-lt, wordsOf-fit}
 use Rattle.bits.specs.Zero.{allZero, clear, padded}
 use Rattle.little_endian.specs.Numbers.{number}
 use Rattle.form.specs.Head.{lengthBytes, headBytes, head, formWidth, formBits}
 use Rattle.little_endian.proofs.Writing.{number-read}
 use Rattle.form.proofs.Forming.{length-head, written-width, written-bits}
+use Rattle.form.proofs.Current.{current-today}
 use Rattle.hash.specs.Open.{family, used, reached, legal}
-use Rattle.hash.specs.Form.{formBytes, formOf, formFamily, hashOf, restoreRefusal}
+use Rattle.hash.specs.Form.{formBytes, formOf, formFamily, current, hashOf, restoreRefusal}
 use Rattle.hash.specs.declared.Hash.{Hash}
 use Rattle.bits.proofs.Zeros.{clear-at, clear-of, take-padded, padded-past, padded-take, getD-padded, length-padded}
 use Rattle.tail.proofs.Sizes.{words-within, bytes-within, block-within}
@@ -40,10 +42,7 @@ clear-same n a b same zeros =
 
 pub reached-fits : (h : Hash) → ((i : ℕ) → getD (h .state) i 0 < 2 ^ 32) → (i : ℕ) → getD (reached h) i 0 < 2 ^ 32
 unfolding reached
-reached-fits h fits i = elim (decLt i (stateWords (family h))) [
-  | yes below ↦ rw (getD-take (stateWords (family h)) (h .state) i 0 below) (fits i)
-  | no past ↦ rw (getD-take-past (stateWords (family h)) (h .state) i (omega arith)) (lit< tt)
-]
+reached-fits h fits = below-take (2 ^ 32) (stateWords (family h)) (h .state) fits
 
 -- A hash read from a form whose width and bit length are known.
 rebuilt : ℕ → ℕ → List ℕ → Hash
@@ -143,6 +142,9 @@ module _ (h : Hash) where
         clear-same (used h) (h .tail) tail-part
         (λ j. ap (λ (l : List ℕ). getD l j 0) (sym same-tail) ∙ getD-padded 128 tail-part j (omega (arith, tail-bytes l, bytes-within (family h))))
         (legal-tail h good)
+
+    pub form-today : current (formOf h) ≡ formOf h
+    form-today = current-today (formOf h) (form-length l ∙ ap (λ (w : ℕ). formBytes (familyOf w)) (sym form-width))
 
     pub form-accepted : restoreRefusal (formOf h) ≡ 0
     unfolding restoreRefusal

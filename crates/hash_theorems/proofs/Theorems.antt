@@ -1,15 +1,16 @@
 -- What holds of the open hash over all messages and all cuttings, of the definitions that the methods' contracts cite.
 use mathlib.Core.Bool.{true, cond}
+use mathlib.Core.Logic.{_⊎_, ⊎-elim, inl, inr}
 use mathlib.Core.List.{List, [], _∷_, _++_}
 use mathlib.Core.Path.{_≡_, refl, sym, ap, _∙_}
 use Prim.Native.Nat.{ℕ, zero, suc, _+_, _*_, _/_, _%_, _<_, _≤_}
 use native.Mathlib.Nat.{zero-add}
 use native.Mathlib.Omega.{arith}
-use borrow.Author.Tests.{le-leb}
+use borrow.Author.Tests.{le-leb, eq-eqb, ne-eqb}
 use lib.Dec.{eqb, eqb·suc-zero}
 use lib.ListN.{length, getD, take, drop, length-take}
 use lib.Seq.{getD-take, ext-getD}
-use Rattle.simd.specs.Basic.{Family, small, large, familyOf, isWidth, blockBits, bytesOf, table, digestBytes}
+use Rattle.simd.specs.Basic.{Family, small, large, familyOf, isWidth, blockBytes, blockBits, bytesOf, table, digestBytes}
 use Rattle.simd.specs.Constants.{start}
 use Rattle.simd.specs.Message.{bitsOf, byteOf, message, messageBlocks, lengthBlock}
 use Rattle.simd.specs.Steps.{compression}
@@ -20,7 +21,10 @@ use Rattle.hash.specs.Open.{limit, family, used, reached, pending, holding, leg
 use Rattle.hash.specs.Open.{fullBlocks, advanced, feedAnswer, finalOf, digestOf, takeRefusal, taken, takeAnswer, written}
 use Rattle.hash.specs.declared.Hash.{Hash}
 use Rattle.hash.specs.declared.Opened.{Opened}
-use Rattle.hash.specs.Form.{formOf, hashOf, restoreRefusal, restoreAnswer}
+use Rattle.bits.specs.Zero.{clear}
+use Rattle.form.specs.Head.{headBytes, formWidth, formBits}
+use Rattle.form.proofs.Current.{current-today, current-old, current-current, current-width, current-long, current-fits, two-sizes, old-size, today-size}
+use Rattle.hash.specs.Form.{formBytes, oldFormBytes, formFamily, formOf, widened, current, hashOf, restoreRefusal, restoreAnswer}
 use Rattle.hash.proofs.Holding.{Sized, Value}
 pub use Rattle.hash_theorems.proofs.Cutting.{Piece, joined, Wholes, bits-joined, Answer, inTurn, Feeding, all-joined}
 use Rattle.hash_theorems.proofs.Held.{long, held-state, held-tail, held-legal}
@@ -28,9 +32,9 @@ use Rattle.hash.proofs.Feeding.{Whole, fed-whole, start-length}
 use Rattle.hash_theorems.proofs.Advanced.{held-sized, advanced-sized, advanced-bits, advanced-legal, advanced-append}
 use Rattle.hash_theorems.proofs.Advanced.{advanced-none, blocks-append, none-full, final-advanced, message-blocks}
 use Rattle.hash.proofs.Digests.{digest-length}
-use Rattle.hash.proofs.Ignored.{opened-refusal}
+use Rattle.hash.proofs.Ignored.{opened-refusal, neither}
 use Rattle.hash_parts.proofs.Accepted.{form-facts}
-use Rattle.hash_theorems.proofs.Storing.{form-hash, form-accepted, read-legal, read-value, read-form}
+use Rattle.hash_theorems.proofs.Storing.{form-hash, form-today, form-accepted, read-legal, read-value, read-form}
 
 -- An open hash fed a piece, and all pieces of a cutting.
 unfoldable pub feedPiece : Hash → Piece → Answer Hash
@@ -265,17 +269,76 @@ pub stored-restored : (h : Hash) → Value h → legal h ≡ true → restoreAns
 unfolding restoreAnswer opened
 stored-restored h v good =
     let hash = form-hash h v good in
-    rw (form-accepted h v good) (λ i. record { hash = hash i; refusal = 0 })
+    rw (form-today h v good, form-accepted h v good) (λ i. record { hash = hash i; refusal = 0 })
 
 pub goes-on : (h : Hash) → Value h → legal h ≡ true → (ps : List Piece) → feedAll (restoreAnswer (formOf h) .hash) ps ≡ feedAll h ps
 goes-on h v good ps = ap (λ (r : Opened). feedAll (r .hash) ps) (stored-restored h v good)
 
--- An accepted form stored again is the same bytes, and its hash is legal, whether or not a message reaches its state.
+-- An accepted form stored again is the form that it stands for, and its hash is legal, whether or not a message reaches its state.
 pub restored-stored : (form : List ℕ) → ((i : ℕ) → getD form i 0 < 256) → restoreAnswer form .refusal ≡ 0
-    → (formOf (restoreAnswer form .hash) ≡ form) × (legal (restoreAnswer form .hash) ≡ true) × Value (restoreAnswer form .hash)
+    → (formOf (restoreAnswer form .hash) ≡ current form) × (legal (restoreAnswer form .hash) ≡ true) × Value (restoreAnswer form .hash)
 unfolding restoreAnswer
 restored-stored form fits e =
-    let none : restoreRefusal form ≡ 0 = sym (opened-refusal (restoreRefusal form) (hashOf form)) ∙ e in
-    let facts = form-facts form none in
-    rw (opened-known (restoreRefusal form) (hashOf form) none)
-    (read-form form fits facts, read-legal form fits facts, read-value form fits facts)
+    let today = current form in
+    let all = current-fits form fits in
+    let none : restoreRefusal today ≡ 0 = sym (opened-refusal (restoreRefusal today) (hashOf today)) ∙ e in
+    let facts = form-facts today none in
+    rw (opened-known (restoreRefusal today) (hashOf today) none)
+    (read-form today all facts, read-legal today all facts, read-value today all facts)
+
+-- A form and the one that it stands for are one hash, of the form's own width.
+pub current-restored : (form : List ℕ) → restoreAnswer (current form) ≡ restoreAnswer form
+unfolding restoreAnswer
+current-restored form = rw (current-current form)
+
+pub restored-width : (form : List ℕ) → restoreAnswer form .refusal ≡ 0 → restoreAnswer form .hash .width ≡ formWidth form
+unfolding restoreAnswer hashOf
+restored-width form e =
+    let today = current form in
+    let none : restoreRefusal today ≡ 0 = sym (opened-refusal (restoreRefusal today) (hashOf today)) ∙ e in
+    rw (opened-known (restoreRefusal today) (hashOf today) none) (current-width form)
+
+-- A form of today's size stored again is the same bytes.
+pub same-bytes : (form : List ℕ) → ((i : ℕ) → getD form i 0 < 256) → length form ≡ formBytes (formFamily form) → restoreAnswer form .refusal ≡ 0
+    → formOf (restoreAnswer form .hash) ≡ form
+same-bytes form fits size e = restored-stored form fits e .0 ∙ current-today form size
+
+-- An old form gives what its new form gives, which has zeros as the high bytes of the length: the answer is the same, and stored again it is
+-- that one.
+module _ (form : List ℕ) (old : length form ≡ oldFormBytes (formFamily form)) where
+  pub old-restored : restoreAnswer form ≡ restoreAnswer (widened form)
+  old-restored = sym (current-restored form) ∙ ap restoreAnswer (current-old form old)
+
+  pub old-stored : ((i : ℕ) → getD form i 0 < 256) → restoreAnswer form .refusal ≡ 0 → formOf (restoreAnswer form .hash) ≡ widened form
+  old-stored fits e = restored-stored form fits e .0 ∙ current-old form old
+
+-- Of the forms of a known width 8 spares those of the two sizes that the width has, and no others.
+module _ (form : List ℕ) (known : isWidth (formWidth form) ≡ true) (long : 2 ≤ length form) where
+  abbrev sizes : Type 0
+  sizes = (length form ≡ oldFormBytes (formFamily form)) ⊎ (length form ≡ formBytes (formFamily form))
+
+  today-known : isWidth (formWidth (current form)) ≡ true
+  today-known = ap isWidth (current-width form) ∙ known
+
+  same-family : formBytes (formFamily (current form)) ≡ formBytes (formFamily form)
+  same-family = ap (λ (w : ℕ). formBytes (familyOf w)) (current-width form)
+
+  pub size-spared : sizes → restoreAnswer form .refusal ≡ 8 → ⊥
+  unfolding restoreAnswer restoreRefusal
+  size-spared two e =
+      let today = current form in
+      let size = ⊎-elim (old-size form) (today-size form) two ∙ sym same-family in
+      let zeros = clear (formBits today % blockBits (formFamily today)) (drop (headBytes + blockBytes (formFamily today)) today) in
+      let tail : restoreRefusal today ≡ cond zeros 0 9 =
+      rw (le-leb 2 (length today) (current-long form long), today-known, eq-eqb (length today) (formBytes (formFamily today)) size) in
+      neither zeros (λ (e : 0 ≡ 8). omega arith) (λ (e : 9 ≡ 8). omega arith) (sym tail ∙ sym (opened-refusal _ (hashOf today)) ∙ e)
+
+  pub size-refused : (sizes → ⊥) → restoreAnswer form .refusal ≡ 8
+  unfolding restoreAnswer restoreRefusal
+  size-refused neither-size =
+      opened-refusal _ (hashOf (current form))
+      ∙ rw (
+        le-leb 2 (length (current form)) (current-long form long),
+        today-known,
+        ne-eqb (length (current form)) (formBytes (formFamily (current form))) (λ size. neither-size (two-sizes form (size ∙ same-family))),
+      )

@@ -6,7 +6,7 @@ use lib.Dec.{leb}
 use lib.ListN.{length, take, drop}
 use Rattle.simd.specs.Basic.{familyOf}
 use Rattle.hash.specs.Open.{first}
-use Rattle.hash.specs.Form.{formBytes, formOf, restoreAnswer as restored}
+use Rattle.hash.specs.Form.{formBytes, formOf, current, restoreAnswer as restored}
 use Rattle.hmac.specs.Keyed.{legal, width, opened}
 use Rattle.hmac.specs.declared.Hmac.{Hmac}
 use Rattle.hmac.specs.declared.Opened.{Opened}
@@ -28,6 +28,10 @@ front form = take (length form / 2) form
 
 unfoldable pub back : List ℕ → List ℕ
 back form = drop (length form / 2) form
+
+-- The keyed form of today that a keyed form stands for, each half by its own size.
+unfoldable pub currentKeyed : List ℕ → List ℕ
+currentKeyed form = current (front form) ++ current (back form)
 
 unfoldable pub hmacOf : List ℕ → Hmac
 hmacOf form = record { inner = restored (front form) .hash; outer = restored (back form) .hash }

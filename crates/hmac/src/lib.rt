@@ -135,7 +135,7 @@ impl Hmac {
         }
     }
 
-    // Writes the stored form: 268 or 524 bytes. Refusals 5, 6.
+    // Writes the stored form: 276 or 532 bytes. Refusals 5, 6.
     pub fn store(self, out: &mut [u8]) -> Stored
         ensures { λ r. ⌜ (r ≡ storeAnswer self (now (out .entry)))
             × (now (out .exit) ≡ written (storeRefusal self (now (out .entry))) (keyedForm self) (now (out .entry))) ⌝ }

@@ -16,7 +16,7 @@ fn is_legal(hash: Hash) -> bool
 {
     let state = hash.state;
     let tail = hash.tail;
-    hash_parts::is_legal(hash.width, hash.bits as u64, &state, &tail)
+    hash_parts::is_legal(hash.width, hash.bits, &state, &tail)
 }
 
 // Whether two hashes are those of a keyed one.

@@ -4,21 +4,21 @@ use mathlib.Core.List.{List, _++_}
 use mathlib.Core.Path.{_≡_, refl, sym, ap, _∙_}
 use Prim.Native.Nat.{ℕ, zero, suc, _+_, _*_, _/_, _<_}
 use native.Mathlib.Omega.{arith}
-use native.Mathlib.Decide.{decLt}
-use lib.ListN.{length, getD, length-append, take-append-drop}
-use lib.Seq.{take-at, drop-at, getD-take, getD-drop}
-use Rattle.simd.specs.Basic.{familyOf}
-use Rattle.laws.proofs.Bits.{getD-take-past}
+use lib.ListN.{length, getD, length-take, length-drop, length-append, take-append-drop}
+use lib.Seq.{take-at, drop-at, getD-drop}
+use Rattle.simd.specs.Basic.{Family, small, large, familyOf}
+use Rattle.laws.proofs.Bounds.{below-take}
 use Rattle.hash.specs.Open.{family, first}
-use Rattle.hash.specs.Form.{formBytes, formOf, restoreAnswer as restored}
+use Rattle.form.proofs.Current.{current-old, current-same, widened-size}
+use Rattle.hash.specs.Form.{formBytes, oldFormBytes, formFamily, formOf, widened, restoreAnswer as restored}
 use Rattle.hash.proofs.Holding.{Value}
 use Rattle.hash.proofs.Refusing.{passed, both-passed}
 use Rattle.hash_theorems.proofs.Held.{long}
 use Rattle.hash_theorems.proofs.Storing.{form-length}
-use Rattle.hash_theorems.proofs.Theorems.{stored-restored as hash-restored, restored-stored as hash-stored}
+use Rattle.hash_theorems.proofs.Theorems.{stored-restored as hash-restored, restored-stored as hash-stored, old-restored as hash-old}
 use Rattle.hmac_parts.proofs.Keyed.{keyed-facts}
 use Rattle.hmac.specs.Keyed.{legal, opened}
-use Rattle.hmac.specs.Form.{keyedForm, front, back, hmacOf, keyedRefusal, restoreAnswer}
+use Rattle.hmac.specs.Form.{keyedForm, front, back, currentKeyed, hmacOf, keyedRefusal, restoreAnswer}
 use Rattle.hmac.specs.declared.Hmac.{Hmac}
 
 -- What every value of the struct keeps to.
@@ -65,7 +65,14 @@ module _ (k : Hmac) (v : Values k) (good : legal k ≡ true) where
   unfolding restoreAnswer keyedRefusal hmacOf opened first
   stored-restored = rw (front-form, back-form, good)
 
--- An accepted form stored again is the same bytes, and it is a keyed hash, whether or not a key and a message reach it.
+-- No old size is one of today, whatever the families are.
+two-families : (f g : Family) → oldFormBytes f ≡ formBytes g → ⊥
+two-families small small same = omega arith
+two-families small large same = omega arith
+two-families large small same = omega arith
+two-families large large same = omega arith
+
+-- An accepted form stored again is the form of today that it stands for, and it is a keyed hash, whether or not a key and a message reach it.
 pub opened-refusal : (r : ℕ) (k : Hmac) → opened r k .refusal ≡ r
 unfolding opened
 opened-refusal zero k = refl
@@ -78,16 +85,13 @@ opened-known r k none = ap (λ (r : ℕ). opened r k) none
 module _ (form : List ℕ) (fits : (i : ℕ) → getD form i 0 < 256) (none : restoreAnswer form .refusal ≡ 0) where
   front-fits : (i : ℕ) → getD (front form) i 0 < 256
   unfolding front
-  front-fits i = elim (decLt i (length form / 2)) [
-    | yes low ↦ rw (getD-take (length form / 2) form i 0 low) (fits i)
-    | no over ↦ rw (getD-take-past (length form / 2) form i (omega arith)) (omega arith)
-  ]
+  front-fits = below-take 256 (length form / 2) form fits
 
   back-fits : (i : ℕ) → getD (back form) i 0 < 256
   unfolding back
   back-fits i = rw (getD-drop (length form / 2) form i 0) (fits (length form / 2 + i))
 
-  refusals : (restored (front form) .refusal ≡ 0) × ((restored (back form) .refusal ≡ 0) × (legal (hmacOf form) ≡ true))
+  pub refusals : (restored (front form) .refusal ≡ 0) × ((restored (back form) .refusal ≡ 0) × (legal (hmacOf form) ≡ true))
   unfolding restoreAnswer keyedRefusal
   refusals =
       let all = sym (opened-refusal (keyedRefusal form) (hmacOf form)) ∙ none in
@@ -99,13 +103,63 @@ module _ (form : List ℕ) (fits : (i : ℕ) → getD form i 0 < 256) (none : re
   unfolding restoreAnswer
   restored-is = opened-known (keyedRefusal form) (hmacOf form) (sym (opened-refusal (keyedRefusal form) (hmacOf form)) ∙ none)
 
-  pub restored-stored : (keyedForm (restoreAnswer form .hmac) ≡ form) × (legal (restoreAnswer form .hmac) ≡ true) × Values (restoreAnswer form .hmac)
-  unfolding keyedForm hmacOf front back
+  pub restored-stored : (keyedForm (restoreAnswer form .hmac) ≡ currentKeyed form)
+      × (legal (restoreAnswer form .hmac) ≡ true) × Values (restoreAnswer form .hmac)
+  unfolding keyedForm currentKeyed hmacOf
   restored-stored =
       let one = hash-stored (front form) front-fits (refusals .0) in
       let two = hash-stored (back form) back-fits (refusals .1 .0) in
       rw restored-is (
-        (λ i. one .0 i ++ two .0 i) ∙ take-append-drop (length form / 2) form,
+        (λ i. one .0 i ++ two .0 i),
         refusals .1 .1,
         record { inner = one .2; outer = two .2 },
       )
+
+  -- One of today's size is the same bytes: its halves have no old size, of either family.
+  pub same-bytes : length form ≡ 2 * formBytes (formFamily (front form)) → keyedForm (restoreAnswer form .hmac) ≡ form
+  unfolding currentKeyed front back
+  same-bytes size =
+      let f = formFamily (front form) in
+      let half : length form / 2 ≡ formBytes f = omega arith in
+      let one = current-same (front form) (λ old. two-families (formFamily (front form)) f (sym old ∙ omega (arith, length-take (length form / 2) form))) in
+      let two = current-same (back form) (λ old. two-families (formFamily (back form)) f (sym old ∙ omega (arith, length-drop (length form / 2) form))) in
+      restored-stored .0 ∙ (λ i. one i ++ two i) ∙ take-append-drop (length form / 2) form
+
+-- An old keyed form, whose halves both are old, gives what its new form gives, and stored again it is that one.
+module _ (form : List ℕ) (old-front : length (front form) ≡ oldFormBytes (formFamily (front form)))
+    (old-back : length (back form) ≡ oldFormBytes (formFamily (back form))) where
+  abbrev new : List ℕ
+  new = widened (front form) ++ widened (back form)
+
+  pub old-current : currentKeyed form ≡ new
+  unfolding currentKeyed
+  old-current = λ i. current-old (front form) old-front i ++ current-old (back form) old-back i
+
+  new-half : length (widened (front form)) ≡ length new / 2
+  unfolding front back
+  new-half =
+      omega (
+        arith,
+        old-front,
+        old-back,
+        length-take (length form / 2) form,
+        length-drop (length form / 2) form,
+        widened-size (front form) (omega (arith, old-front)),
+        widened-size (back form) (omega (arith, old-back)),
+        length-append (widened (front form)) (widened (back form)),
+      )
+
+  front-new : restored (front new) ≡ restored (front form)
+  unfolding front
+  front-new = ap restored (take-at (widened (front form)) (widened (back form)) (length new / 2) new-half) ∙ sym (hash-old (front form) old-front)
+
+  back-new : restored (back new) ≡ restored (back form)
+  unfolding back
+  back-new = ap restored (drop-at (widened (front form)) (widened (back form)) (length new / 2) new-half) ∙ sym (hash-old (back form) old-back)
+
+  pub old-restored : restoreAnswer form ≡ restoreAnswer new
+  unfolding restoreAnswer keyedRefusal hmacOf
+  old-restored = rw (front-new, back-new)
+
+  pub old-stored : ((i : ℕ) → getD form i 0 < 256) → restoreAnswer form .refusal ≡ 0 → keyedForm (restoreAnswer form .hmac) ≡ new
+  old-stored fits none = restored-stored form fits none .0 ∙ old-current

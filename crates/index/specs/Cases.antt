@@ -17,19 +17,19 @@ abbrev bytes : List ℕ
 bytes = replicate 75 0
 
 abbrev old : List ℕ
-old = 0 ∷ 1 ∷ 88 ∷ 2 ∷ 0 ∷ 0 ∷ replicate 64 0
+old = 0 ∷ 1 ∷ 88 ∷ 2 ∷ 0 ∷ 0 ∷ 0 ∷ 0 ∷ 0 ∷ 0 ∷ replicate 64 0
 
 pub cases :
     -- the head of 600 bits at 256
-    (head 256 600 ≡ 0 ∷ 1 ∷ 88 ∷ 2 ∷ 0 ∷ 0 ∷ [])
+    (head 256 600 ≡ 0 ∷ 1 ∷ 88 ∷ 2 ∷ 0 ∷ 0 ∷ 0 ∷ 0 ∷ 0 ∷ 0 ∷ [])
     -- no full block; one; 16 and all but a bit of another; 17
-    × (indexBytes 256 511 ≡ 6)
-    × (indexBytes 256 512 ≡ 70)
-    × (indexBytes 256 8703 ≡ 70)
-    × (indexBytes 256 8704 ≡ 134)
-    × (indexBytes 512 1024 ≡ 134)
-    × (indexBytes 512 17407 ≡ 134)
-    × (indexBytes 512 17408 ≡ 262)
+    × (indexBytes 256 511 ≡ 10)
+    × (indexBytes 256 512 ≡ 74)
+    × (indexBytes 256 8703 ≡ 74)
+    × (indexBytes 256 8704 ≡ 138)
+    × (indexBytes 512 1024 ≡ 138)
+    × (indexBytes 512 17407 ≡ 138)
+    × (indexBytes 512 17408 ≡ 266)
     -- of 17 full blocks: from blocks 15, 16 and the length block; of 16 and a part: from the part
     × (startsAt small 8704 15 ≡ 0)
     × (startsAt small 8704 16 ≡ 1)
@@ -45,11 +45,11 @@ pub cases :
     × (reindexRefusal 256 bytes 599 old 2 0 0 ≡ 15)
     × (reindexRefusal 224 bytes 600 old 2 0 0 ≡ 15)
     × (reindexRefusal 256 bytes 600 (old ++ (0 ∷ [])) 2 0 0 ≡ 15)
-    × (reindexRefusal 256 bytes 600 old 2 69 32 ≡ 6)
-    × (reindexRefusal 256 bytes 600 old 2 70 31 ≡ 6)
-    × (reindexRefusal 256 bytes 600 old 2 70 32 ≡ 0)
-    × (indexRefusal 256 bytes 600 69 32 ≡ 6)
-    × (indexRefusal 256 bytes 600 70 32 ≡ 0)
+    × (reindexRefusal 256 bytes 600 old 2 73 32 ≡ 6)
+    × (reindexRefusal 256 bytes 600 old 2 74 31 ≡ 6)
+    × (reindexRefusal 256 bytes 600 old 2 74 32 ≡ 0)
+    × (indexRefusal 256 bytes 600 73 32 ≡ 6)
+    × (indexRefusal 256 bytes 600 74 32 ≡ 0)
 unfolding table sum littleEndian number formWidth formBits messageBlocks compressions kept startsAt skipped correctedCompressions messageRefusal roomRefusal
     indexRefusal fits fitRefusal reindexRefusal first pieceRefusal
 cases = (refl, refl, refl, refl, refl, refl, refl, refl, refl, refl, refl, refl, refl, refl, refl, refl, refl, refl, refl, refl, refl, refl, refl, refl, refl)

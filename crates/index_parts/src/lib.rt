@@ -128,5 +128,5 @@ pub fn start_state(width: u16, count: usize, old: &[u8], block: u64) -> [u32; 32
     }
     let size = tail::block_bytes(width);
     let at = size * i;
-    form::read_state(&old[at..old.len()], size / 4)
+    form::read_words(old, form::HEAD_BYTES + at, size / 4)
 }

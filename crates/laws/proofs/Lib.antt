@@ -5,6 +5,7 @@ pub mod Bits
 pub mod Chain
 pub mod Fill
 pub mod Append
+pub mod Bounds
 pub mod Field
 pub mod Below
 pub mod Regroup

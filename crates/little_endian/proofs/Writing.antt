@@ -97,3 +97,12 @@ unfolding number sum
 read-four bytes at a b c d first second third fourth =
     let start = getD-drop at bytes 0 0 ∙ ap (λ (n : ℕ). getD bytes n 0) (add-zero at) in
     omega (arith, start, getD-drop at bytes 1 0, getD-drop at bytes 2 0, getD-drop at bytes 3 0)
+
+-- Eight bytes are two words.
+pub read-eight : (bytes : List ℕ) (at a b : ℕ) → a ≡ number 4 (drop at bytes) → b ≡ number 4 (drop (at + 4) bytes)
+    → a + 4294967296 * b ≡ number 8 (drop at bytes)
+unfolding number sum
+read-eight bytes at a b low high =
+    let next : (t : ℕ) → getD (drop (at + 4) bytes) t 0 ≡ getD (drop at bytes) (4 + t) 0 =
+    λ t. getD-drop (at + 4) bytes t 0 ∙ ap (λ (n : ℕ). getD bytes n 0) (omega arith) ∙ sym (getD-drop at bytes (4 + t) 0) in
+    omega (arith, next 0, next 1, next 2, next 3)

@@ -47,3 +47,11 @@ pub fn read_word(bytes: &[u8], at: usize) -> u32
     let d = bits::wide(bytes[at + 3]) as u32;
     a + 256 * b + 65536 * c + 16777216 * d
 }
+
+// The number that the eight bytes at a place are.
+pub fn read_long(bytes: &[u8], at: usize) -> u64
+    requires { ⌜ at + 8 ≤ length (now bytes) ⌝ }
+    ensures { λ r. ⌜ r ≡ number 8 (drop at (now (bytes .entry))) ⌝ }
+{
+    read_word(bytes, at) as u64 + 4294967296 * read_word(bytes, at + 4) as u64
+}

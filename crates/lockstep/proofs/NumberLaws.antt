@@ -25,7 +25,7 @@ use Rattle.lockstep.specs.Lockstep.{Reached}
 use Rattle.lockstep.proofs.RunLaws.{length-state}
 
 -- The length blocks are equal exactly where the lengths are.
-length-test : (f : Family) (m n : ℕ) → m < 2 ^ 32 → n < 2 ^ 32 → Dec (m ≡ n) → equal (lengthBlock f m) (lengthBlock f n) ≡ eqb m n
+length-test : (f : Family) (m n : ℕ) → m < 2 ^ 64 → n < 2 ^ 64 → Dec (m ≡ n) → equal (lengthBlock f m) (lengthBlock f n) ≡ eqb m n
 length-test f m n hm hn (yes e) = same-equal (lengthBlock f m) (lengthBlock f n) (ap (lengthBlock f) e) ∙ sym (eq-eqb m n e)
 length-test f m n hm hn (no h) = not-equal (lengthBlock f m) (lengthBlock f n) (λ e. h (length-ext f m n hm hn e)) ∙ sym (ne-eqb m n h)
 

@@ -2,19 +2,21 @@
 use mathlib.Core.List.{List}
 use mathlib.Core.Path.{_≡_, sym, ap, _∙_}
 use Prim.Native.Nat.{ℕ, suc, _+_, _*_, _-_, _/_, _%_, _^_, _<_}
-use native.Mathlib.Nat.{div-div-eq-div-mul, div-one}
+use native.Mathlib.Nat.{mod-eq-of-lt}
 use native.Mathlib.Omega.{arith}
 use lib.ListN.{length, getD}
 use lib.Seq.{ext-getD}
 use Rattle.simd.specs.Basic.{Family, small, large, blockBytes}
 use Rattle.simd.specs.Message.{byteOf, block, messageBlocks, lengthBlock}
 use Rattle.laws.proofs.Bits.{Bits, byte-value, value-bit}
+use Rattle.laws.proofs.LittleEndian.{digits-sum}
+use Rattle.laws.proofs.Sum.{sum-ext}
 use Rattle.laws.proofs.Table.{getD-table}
 
--- A message that breaks no rule: its elements are bits, and its length fits 32 bits.
+-- A message that breaks no rule: its elements are bits, and its length fits 64 bits.
 pub record IsMessage (m : List ℕ) : Type 0 where
   pub bits : Bits m
-  pub short : length m < 2 ^ 32
+  pub short : length m < 2 ^ 64
 
 -- Bit i of a message, from its byte.
 bit-of-byte : (m : List ℕ) → Bits m → (i : ℕ) → getD m i 0 ≡ byteOf m (i / 8) / 2 ^ (7 - i % 8) % 2
@@ -52,23 +54,16 @@ message-ext f a b wa wb e same =
     let blocks = same (j / blockBytes f) (block-of-byte f (length a) j low) in
     byte-of-block f a j ∙ ap (λ (l : List ℕ). getD l (j % blockBytes f) 0) blocks ∙ sym (byte-of-block f b j))
 
--- Numbers with the same digit at d and the same higher digits are the same from d on.
-digit-ext : (d n k : ℕ) → n / d % 256 ≡ k / d % 256 → n / (d * 256) ≡ k / (d * 256) → n / d ≡ k / d
-digit-ext d n k low high = omega (arith, div-div-eq-div-mul n d 256, div-div-eq-div-mul k d 256)
-
-length-byte : (f : Family) (n j : ℕ) → j < 4 → getD (lengthBlock f n) j 0 ≡ n / 256 ^ j % 256
+-- The length block tells the length, by its first eight bytes.
+length-byte : (f : Family) (n j : ℕ) → j < 8 → getD (lengthBlock f n) j 0 ≡ n / 256 ^ j % 256
 unfolding lengthBlock
 length-byte small n j h = getD-table 64 (λ j. n / 256 ^ j % 256) j 0 (omega arith)
 length-byte large n j h = getD-table 128 (λ j. n / 256 ^ j % 256) j 0 (omega arith)
 
--- The length block tells the length.
-pub length-ext : (f : Family) (n k : ℕ) → n < 2 ^ 32 → k < 2 ^ 32 → lengthBlock f n ≡ lengthBlock f k → n ≡ k
+pub length-ext : (f : Family) (n k : ℕ) → n < 2 ^ 64 → k < 2 ^ 64 → lengthBlock f n ≡ lengthBlock f k → n ≡ k
 length-ext f n k hn hk e =
-    let at : (j : ℕ) → j < 4 → n / 256 ^ j % 256 ≡ k / 256 ^ j % 256 =
+    let digit : (j : ℕ) → j < 8 → n / 256 ^ j % 256 ≡ k / 256 ^ j % 256 =
     λ j h. sym (length-byte f n j h) ∙ ap (λ (l : List ℕ). getD l j 0) e ∙ length-byte f k j h in
-    let high : n / 256 ^ 4 ≡ k / 256 ^ 4 = omega arith in
-    let d3 = digit-ext (256 ^ 3) n k (at 3 (omega arith)) high in
-    let d2 = digit-ext (256 ^ 2) n k (at 2 (omega arith)) d3 in
-    let d1 = digit-ext 256 n k (at 1 (omega arith)) d2 in
-    let d0 = digit-ext 1 n k (at 0 (omega arith)) d1 in
-    sym (div-one n) ∙ d0 ∙ div-one k
+    let sums =
+    sum-ext 8 (λ j. n / 256 ^ j % 256 * 256 ^ j) (λ j. k / 256 ^ j % 256 * 256 ^ j) (λ j h. ap (λ (d : ℕ). d * 256 ^ j) (digit j h)) in
+    sym (digits-sum 8 n ∙ mod-eq-of-lt hn) ∙ sums ∙ digits-sum 8 k ∙ mod-eq-of-lt hk

@@ -11,7 +11,7 @@ fn number(n: u8) {
 fn answers(name: &[u8], hash: Hash) {
     let piece = [0u8; 1];
     let mut digest = [0u8; 64];
-    let mut form = [0u8; 262];
+    let mut form = [0u8; 266];
     io::write_all(STDOUT_FILENO, name);
     number(hash.feed(&piece, 0).refusal);
     number(hash.take(&mut digest).refusal);
@@ -22,7 +22,7 @@ fn answers(name: &[u8], hash: Hash) {
 fn keyed(name: &[u8], inner: Hash, outer: Hash) {
     let piece = [0u8; 1];
     let mut tag = [0u8; 64];
-    let mut form = [0u8; 524];
+    let mut form = [0u8; 532];
     let hmac = Hmac { inner, outer };
     io::write_all(STDOUT_FILENO, name);
     number(hmac.feed(&piece, 0).refusal);
@@ -32,7 +32,7 @@ fn keyed(name: &[u8], inner: Hash, outer: Hash) {
     io::write_all(STDOUT_FILENO, b"\n");
 }
 
-fn of(width: u16, bits: u32) -> Hash {
+fn of(width: u16, bits: u64) -> Hash {
     Hash {
         width,
         bits,

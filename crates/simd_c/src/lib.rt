@@ -24,7 +24,7 @@ ghost use Rattle.text.specs.Text.{over};
 ghost use Rattle.ledger.specs.Page.{entryLines, printRefusal};
 ghost use Rattle.check_digits.specs.Quote.{quote as quoteOf, isRight};
 ghost use Rattle.quote.specs.Call.{quoteRefusal};
-ghost use Rattle.simd_c_forms.specs.Calls.{stored, openedHash, openCall, fedFrom, feedCall, takeCall};
+ghost use Rattle.simd_c_forms.specs.Calls.{stored, openedHash, openCall, fedFrom, feedCall, restoreCall, takeCall};
 ghost use Rattle.simd_c_hmac.specs.Calls.{openedHmac, openCall as openKeyed, fedFrom as fedKeyed, feedCall as feedKeyed, takeCall as takeKeyed};
 ghost use Rattle.simd_c_hmac.specs.Calls.{checkCall, yes};
 ghost use Rattle.simd_c_answers.specs.Calls.{refusalOf, verdictAfter, blockAfter, runWithin, placed};
@@ -46,6 +46,15 @@ pub extern "C" fn simd_feed(form: &mut [u8], piece: &[u8], bits: u64, blocks: &m
         (fedFrom (now (form .entry)) (now (piece .entry)) bits .blocks) (now (blocks .entry)) ⌝ }
 {
     simd_c_forms::feed_form(form, piece, bits, blocks)
+}
+
+#[no_mangle]
+pub extern "C" fn simd_restore(given: &[u8], form: &mut [u8]) -> u8
+    ensures { λ r. ⌜ r ≡ restoreCall (now (given .entry)) (now (form .entry)) ⌝ }
+    ensures { λ r. ⌜ now (form .exit) ≡ written (restoreCall (now (given .entry)) (now (form .entry)))
+        (formOf (restoreAnswer (now (given .entry)) .hash)) (now (form .entry)) ⌝ }
+{
+    simd_c_forms::restore_form(given, form)
 }
 
 #[no_mangle]

@@ -2,11 +2,13 @@
 -- is anything written. Said of any kind of hash. What the definitions give is a, b for refusals, h for a hash and v for a number; what the code
 -- has is r, s, g and u.
 use mathlib.Core.List.{List}
-use mathlib.Core.Path.{_≡_, sym, ap, _∙_}
+use mathlib.Core.Path.{_≡_, sym, ap, _∙_, subst}
 use Prim.Native.Nat.{ℕ}
 use Rattle.hash.specs.Open.{first, written}
 use Rattle.hash.proofs.Refusing.{first-refused, first-accepted, written-refused, stored-refused, stored-accepted}
-use Rattle.simd_c_forms.specs.Calls.{stored}
+use Rattle.hash.specs.Form.{formOf}
+use Rattle.hash.specs.declared.Opened.{Opened}
+use Rattle.simd_c_forms.specs.Calls.{stored, openedCall}
 
 -- A call that answers n, no 0, leaves bytes and number as they were; one that answers 0 puts the new number.
 module _ {call n : ℕ} (e : n ≡ call) where
@@ -98,3 +100,10 @@ module _ {H : Type 0} (refusal : H → ℕ) (bytes : H → List ℕ) (form : Lis
 
       pub all-done : n ≡ 0 → {u : ℕ} → u ≡ v → Feeds 0 left u
       all-done zero same = let e = asked ∙ last in (sym zero ∙ e, (filled, puts-number e zero old same))
+
+-- An answer that is stored, told of the answer that it equals.
+pub stored-as : {o p : Opened} → o ≡ p → (out last : List ℕ) (r : ℕ)
+    → (r ≡ openedCall o out) × (last ≡ written (openedCall o out) (formOf (o .hash)) out)
+    → (r ≡ openedCall p out) × (last ≡ written (openedCall p out) (formOf (p .hash)) out)
+stored-as same out last r told =
+    subst (λ (o : Opened). (r ≡ openedCall o out) × (last ≡ written (openedCall o out) (formOf (o .hash)) out)) same told

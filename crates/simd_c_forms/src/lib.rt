@@ -1,10 +1,24 @@
-// The calls for C that hold a stored form: opened, fed and taken. Each answers the refusal's number or 0, and on a refusal leaves all that it was
+// The calls for C that hold a stored form: opened, fed, restored and taken. Each answers the refusal's number or 0, and on a refusal leaves all that it was
 // lent as it was.
 ghost use mathlib.Core.Path.{_≡_};
 ghost use Rattle.hash.specs.Open.{takeAnswer, digestOf, written};
 ghost use Rattle.hash.specs.Form.{formOf, restoreAnswer};
-ghost use Rattle.simd_c_forms.specs.Calls.{stored, openedHash, openCall, fedFrom, feedCall, takeCall};
+ghost use Rattle.simd_c_forms.specs.Calls.{stored, openedCall, openedHash, openCall, fedFrom, feedCall, restoreCall, takeCall};
 use hash::Hash;
+use hash::Opened;
+
+// The hash of an answer, stored, unless one of the two is refused.
+fn store_opened(opened: Opened, out: &mut [u8]) -> u8
+    ensures { λ r. ⌜ r ≡ openedCall opened (now (out .entry)) ⌝ }
+    ensures { λ r. ⌜ now (out .exit) ≡ written (openedCall opened (now (out .entry))) (formOf (opened .hash)) (now (out .entry)) ⌝ }
+{
+    let refusal = opened.refusal;
+    if refusal != 0 {
+        return refusal;
+    }
+    let hash = opened.hash;
+    hash::write_stored(hash, out)
+}
 
 // The empty hash of a width, stored.
 pub fn open_form(width: u16, form: &mut [u8]) -> u8
@@ -12,12 +26,7 @@ pub fn open_form(width: u16, form: &mut [u8]) -> u8
     ensures { λ r. ⌜ now (form .exit) ≡ written (openCall width (now (form .entry))) (formOf (openedHash width)) (now (form .entry)) ⌝ }
 {
     let opened = Hash::open(width);
-    let refusal = opened.refusal;
-    if refusal != 0 {
-        return refusal;
-    }
-    let hash = opened.hash;
-    hash.store(form).refusal
+    store_opened(opened, form)
 }
 
 // A form restored, fed and stored again.
@@ -40,12 +49,22 @@ pub fn feed_form(form: &mut [u8], piece: &[u8], bits: u64, blocks: &mut u64) -> 
         return refused;
     }
     let next = fed.hash;
-    let full = next.store(form).refusal;
+    let full = hash::write_stored(next, form);
     if full != 0 {
         return full;
     }
     *blocks = fed.blocks as u64;
     0
+}
+
+// A form, of today's size or the old one, restored and stored in another place.
+pub fn restore_form(form: &[u8], out: &mut [u8]) -> u8
+    ensures { λ r. ⌜ r ≡ restoreCall (now (form .entry)) (now (out .entry)) ⌝ }
+    ensures { λ r. ⌜ now (out .exit) ≡ written (restoreCall (now (form .entry)) (now (out .entry)))
+        (formOf (restoreAnswer (now (form .entry)) .hash)) (now (out .entry)) ⌝ }
+{
+    let opened = Hash::restore(form);
+    store_opened(opened, out)
 }
 
 // A form restored and taken.

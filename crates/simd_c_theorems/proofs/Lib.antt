@@ -1,3 +1,4 @@
 pub mod Opening
 pub mod Theorems
+pub mod Restoring
 pub mod Ignored

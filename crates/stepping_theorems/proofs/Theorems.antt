@@ -13,6 +13,7 @@ use lib.Seq.{take-add, take-all, take-at, drop-at, getD-take, getD-drop, getD-ap
 use Rattle.simd.specs.Basic.{Family, rows, stateWords, blockBytes, familyOf, wordsOf, bytesOf}
 use Rattle.simd.specs.Expansion.{expanded}
 use Rattle.simd.specs.Steps.{State, words, state, steps}
+use Rattle.laws.proofs.Bounds.{below-append}
 use Rattle.laws.proofs.LittleEndian.{length-bytesOf, length-wordsOf, words-bytes, bytes-words, wordsOf-fit, getD-bytesOf}
 use Rattle.unsteps.specs.Unstep.{unsteps, Column, Valid}
 use Rattle.unsteps.proofs.Inverse.{steps-valid, unsteps-valid, unsteps-steps, steps-unsteps}
@@ -34,15 +35,7 @@ together r l size =
     ∙ sym (take-add (3 * r) r l)
     ∙ take-all (3 * r + r) l (omega arith)
 
--- Words below n, also past the end of a list.
-pub below-append : (n : ℕ) (l m : List ℕ) → ((i : ℕ) → getD l i 0 < n) → ((i : ℕ) → getD m i 0 < n) → (i : ℕ) → getD (l ++ m) i 0 < n
-below-append n l m below-l below-m i = elim (decLt i (length l)) [
-  | yes within ↦ rw (List·getD-append l m 0 i within) (below-l i)
-  | no past ↦
-      let place : length l + (i - length l) ≡ i = omega arith in
-      subst (λ k. getD (l ++ m) k 0 < n) place (rw (getD-append-add l m (i - length l) 0) (below-m (i - length l)))
-]
-
+-- Words of a column, also past its end.
 column-word : (f : Family) (l : List ℕ) → Column f l → (i : ℕ) → getD l i 0 < 2 ^ 32
 column-word f l col i = elim (decLt i (rows f)) [
   | yes within ↦ col .word i within

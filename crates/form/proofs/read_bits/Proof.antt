@@ -1,4 +1,4 @@
--- The bit length is the word behind the width.
+-- The bit length is the number behind the width.
 use borrow.Author.Needs.{needs}
 use Rattle.form.specs.Head.{formBits}
 use Rattle.form.proofs.read_bits.Statement.{statement}
@@ -6,7 +6,7 @@ use Rattle.form.proofs.read_bits.Tie as tie
 
 returns : tie.Need-returns
 unfolding formBits
-returns c = c .read-word .ensures
+returns c = c .read-long .ensures
 
 pub read-bits-spec : {M : Type 1} → statement M
 read-bits-spec = tie.close (tie.spec (search needs) returns)

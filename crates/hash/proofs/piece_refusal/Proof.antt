@@ -26,15 +26,8 @@ returns-2 c =
 
 returns-3 : tie.Need-returns-3
 returns-3 c =
-    let e = c .before .before in
-    let a = start (e .before) .args in
-    total-above (a .bits) (a .piece .now) (a .count) (within e) (omega (arith, c .if3 .taken, c .before .if2 .left))
-
-returns-4 : tie.Need-returns-4
-returns-4 c =
-    let e = c .before .before in
-    let a = start (e .before) .args in
-    total-within (a .bits) (a .piece .now) (a .count) (within e) (omega (arith, c .if3 .left, c .before .if2 .left))
+    let a = start (c .before .before) .args in
+    total-within (a .bits) (a .piece .now) (a .count) (within (c .before)) (omega (arith, c .if2 .left))
 
 pub piece-refusal-spec : {M : Type 1} → statement M
-piece-refusal-spec = tie.close (tie.spec (λ c κs. search needs) returns returns-2 returns-3 returns-4)
+piece-refusal-spec = tie.close (tie.spec (λ c κs. search needs) returns (λ c. omega arith) returns-2 returns-3)

@@ -55,21 +55,21 @@ mul-block c = omega (arith, c .block-bytes .ensures, bytes-within (family (start
 
 returns-4 : tie.Need-returns-4
 returns-4 c =
-    let b = c .before .before in
+    let b = c .before in
     let e = both-passed b in
     let a = start (inner-passed e) .args in
     too-short (a .inner) (a .outer) (one (inner-passed e)) (two e) (b .before .if3 .left) (omega (arith, c .if4 .taken, sized b))
 
 returns-5 : tie.Need-returns-5
 returns-5 c =
-    let b = c .before .before .before in
+    let b = c .before in
     let e = both-passed b in
     let a = start (inner-passed e) .args in
     length-decides (a .inner) (a .outer) (one (inner-passed e)) (two e) (b .before .if3 .left) (8 * b .block-bytes .result) (sized b)
-    (omega (arith, c .before .if4 .left, sized b))
+    (omega (arith, c .if4 .left, sized b))
 
 pub is-keyed-spec : {M : Type 1} → statement M
 is-keyed-spec =
     tie.close
-    (tie.spec (λ c κs. search needs) returns (λ c κs. search needs) returns-2 returns-3 (λ c κs. search needs) mul-block (λ c. search needs) returns-4
-    (λ c. search needs) returns-5)
+    (tie.spec (λ c κs. search needs) returns (λ c κs. search needs) returns-2 returns-3 (λ c κs. search needs) mul-block returns-4
+    returns-5)

@@ -43,4 +43,4 @@ returns-3 c =
 pub fits-spec : {M : Type 1} → statement M
 fits-spec =
     tie.close
-    (tie.spec (λ c κs. search needs) returns read-width-requires returns-2 read-bits-requires (λ c. search needs) returns-3)
+    (tie.spec (λ c κs. search needs) returns read-width-requires returns-2 read-bits-requires returns-3)

@@ -1,9 +1,9 @@
 -- The words behind the head and the states before; or, where no state is kept, the width's own.
 use mathlib.Core.Path.{_≡_, sym, _∙_}
-use Prim.Native.Nat.{_+_, _*_, _-_, _≤_}
+use Prim.Native.Nat.{_+_, _*_, _≤_}
 use native.Mathlib.Omega.{arith}
 use borrow.Author.Needs.{needs}
-use lib.ListN.{length, drop, length-take, length-drop}
+use lib.ListN.{length}
 use Rattle.simd.specs.Basic.{familyOf}
 use Rattle.tail.proofs.Sizes.{bytes-within}
 use Rattle.form.specs.Head.{headBytes}
@@ -41,29 +41,21 @@ within c =
 mul-at : tie.Need-mul-at
 mul-at c = omega (arith, within c)
 
-sub-read-state : tie.Need-sub-read-state
-sub-read-state c = omega (arith, within c)
+add-read-words : tie.Need-add-read-words
+add-read-words c = omega (arith, within c)
 
-part-read-state-start : tie.Need-part-read-state-start
-part-read-state-start c = omega (arith, within c)
-
-read-state-requires : tie.Need-read-state-requires
-read-state-requires c κs =
-    let s = c .before in
-    let a = start s .args in
-    let at = s .block-bytes .result * s .before .before .starts-at .result in (
-      omega (arith, s .block-bytes .ensures, bytes-within (familyOf (a .width))),
-      omega (arith, length-take (length (a .old .now) - at) (drop at (a .old .now)), length-drop at (a .old .now), within s),
-    )
+read-words-requires : tie.Need-read-words-requires
+read-words-requires c κs =
+    (omega (arith, c .block-bytes .ensures, bytes-within (familyOf (start c .args .width))), omega (arith, within c))
 
 returns-2 : tie.Need-returns-2
 returns-2 c =
-    let s = c .before .before in
+    let s = c .before in
     let a = start s .args in
-    one-kept (a .width) (a .count) (a .old .now) (a .block) (s .block-bytes .ensures) (s .before .before .starts-at .ensures) (some s) (c .read-state .ensures)
+    one-kept (a .width) (a .count) (a .old .now) (a .block) (s .block-bytes .ensures) (s .before .before .starts-at .ensures) (some s) (c .read-words .ensures)
 
 pub start-state-spec : {M : Type 1} → statement M
 start-state-spec =
     tie.close
-    (tie.spec (λ c κs. search needs) (λ c κs. search needs) (λ c κs. search needs) returns (λ c κs. search needs) mul-at sub-read-state
-    part-read-state-start (λ c. search needs) read-state-requires returns-2)
+    (tie.spec (λ c κs. search needs) (λ c κs. search needs) (λ c κs. search needs) returns (λ c κs. search needs) mul-at add-read-words
+    read-words-requires returns-2)

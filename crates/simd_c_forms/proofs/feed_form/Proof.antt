@@ -8,7 +8,6 @@ use Rattle.hash.specs.Form.{formOf, storeAnswer, storeRefusal, restoreAnswer}
 use Rattle.hash.specs.declared.Hash.{Hash}
 use Rattle.hash.specs.declared.Opened.{Opened}
 use Rattle.hash.specs.declared.Fed.{Fed}
-use Rattle.hash.specs.declared.Stored.{Stored}
 use Rattle.simd_c_forms.specs.Calls.{fedFrom, feedCall}
 use Rattle.simd_c_forms.proofs.Turns.{first-refuses, second-refuses, no-room, all-done}
 use Rattle.simd_c_forms.proofs.feed_form.Statement.{statement}
@@ -67,8 +66,8 @@ returns-3 c =
     let f = e .before in
     let r = read f .before in
     no-room (refusal r) formOf (form r) (next r .hash) (next r .blocks) (old r) (next r .refusal) (answer r) (read f .if1 .left)
-    (ap (λ (a : Fed). a .refusal) (fed f)) (e .if2 .left) (ap (λ (a : Fed). a .hash) (fed f)) (ap (λ (a : Stored). a .refusal) (s .store .ensures .0))
-    (s .store .ensures .1) (c .if3 .taken)
+    (ap (λ (a : Fed). a .refusal) (fed f)) (e .if2 .left) (ap (λ (a : Fed). a .hash) (fed f)) (s .write-stored .ensures .0)
+    (s .write-stored .ensures .1) (c .if3 .taken)
 
 returns-4 : tie.Need-returns-4
 unfolding feedCall storeAnswer
@@ -78,8 +77,8 @@ returns-4 c =
     let f = e .before in
     let r = read f .before in
     all-done (refusal r) formOf (form r) (next r .hash) (next r .blocks) (old r) (next r .refusal) (answer r) (read f .if1 .left)
-    (ap (λ (a : Fed). a .refusal) (fed f)) (e .if2 .left) (ap (λ (a : Fed). a .hash) (fed f)) (ap (λ (a : Stored). a .refusal) (s .store .ensures .0))
-    (s .store .ensures .1) (c .if3 .left) (ap (λ (a : Fed). a .blocks) (fed f))
+    (ap (λ (a : Fed). a .refusal) (fed f)) (e .if2 .left) (ap (λ (a : Fed). a .hash) (fed f)) (s .write-stored .ensures .0)
+    (s .write-stored .ensures .1) (c .if3 .left) (ap (λ (a : Fed). a .blocks) (fed f))
 
 pub feed-form-spec : {M : Type 1} → statement M
 feed-form-spec =

@@ -10,7 +10,7 @@ use Rattle.hash.proofs.Hash.feed.Tie as tie
 
 -- The start, from the place after the check, and that place from later ones.
 abbrev lent : tie.After-tail2 → tie.Start
-lent c = c .before .before .before .before .before .before
+lent c = c .before .before .before .before .before
 
 abbrev start : tie.After-feed-refusal → tie.Start
 start c = lent (c .before)
@@ -54,9 +54,6 @@ advance-requires c κs =
 add-self : tie.Need-add-self
 add-self c = omega (arith, accepts (accepted-before (c .before)) .whole .short)
 
-cast-self : tie.Need-cast-self
-cast-self c = omega (arith, accepts (accepted-before (c .before)) .whole .short)
-
 returns-2 : tie.Need-returns-2
 returns-2 c =
     let e = accepted-before (c .before) in
@@ -71,5 +68,5 @@ returns-2 c =
 pub feed-spec : {M : Type 1} → statement M
 feed-spec =
     tie.close
-    (tie.spec (λ c. search needs) (λ c. search needs) (λ c. search needs) (λ c κs. search needs) returns (λ c κs. search needs) (λ c κs. search needs)
-    (λ c. search needs) (λ c. search needs) (λ c. search needs) part-advance-end advance-requires add-self cast-self returns-2)
+    (tie.spec (λ c. search needs) (λ c. search needs) (λ c κs. search needs) returns (λ c κs. search needs) (λ c κs. search needs)
+    (λ c. search needs) (λ c. search needs) (λ c. search needs) part-advance-end advance-requires add-self returns-2)

@@ -19,7 +19,7 @@ abbrev measured : tie.After-output-refusal → tie.After-digest-bytes
 measured c = c .before .before .before
 
 abbrev start : tie.After-output-refusal → tie.Start
-start c = measured c .before .before .before .before .before
+start c = measured c .before .before .before .before
 
 -- The lengths of the arrays of a hash.
 lengths : (s : tie.Start) → (length (s .args .self .state) ≡ 32) × (length (s .args .self .tail) ≡ 128)
@@ -71,6 +71,6 @@ returns-2 c =
 pub take-spec : {M : Type 1} → statement M
 take-spec =
     tie.close
-    (tie.spec (λ c. search needs) (λ c κs. search needs) (λ c. search needs) (λ c. search needs) (λ c κs. search needs)
+    (tie.spec (λ c κs. search needs) (λ c. search needs) (λ c. search needs) (λ c κs. search needs)
     returns (λ c. search needs) close-requires (λ c. search needs) (λ c. search needs) part-write-words-end write-words-requires
     (λ c. search needs) returns-2)

@@ -22,7 +22,7 @@ accepted c = c .before .before .before .before
 long : (s : tie.Start) → Long (s .args .self .inner) × Long (s .args .self .outer)
 long s = (record { words = search needs; bytes = search needs }, record { words = search needs; bytes = search needs })
 
-small : (c : tie.After-form-bytes) → c .form-bytes .result ≤ 262
+small : (c : tie.After-form-bytes) → c .form-bytes .result ≤ 266
 small c = omega (arith, c .form-bytes .ensures, bytes-within (familyOf (width (start c .args .self))))
 
 facts : (c : tie.Else1) → let f = c .before .before in
