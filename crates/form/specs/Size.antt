@@ -5,7 +5,7 @@ use Prim.Native.Nat.{ℕ, _+_, _*_, _-_}
 use lib.Dec.{eqb}
 use lib.ListN.{length, take, drop}
 use Rattle.simd.specs.Basic.{Family, familyOf, blockBytes, table}
-use Rattle.form.specs.Head.{lengthBytes, headBytes, formWidth}
+use Rattle.form.specs.Head.{headBytes, formWidth}
 
 -- The bytes of a form: its head, a state and a block.
 abbrev pub formBytes : Family → ℕ

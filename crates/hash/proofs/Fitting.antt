@@ -9,7 +9,7 @@ use native.Mathlib.Omega.{arith}
 use lib.Dec.{T, ltb, ltb→lt, lit<}
 use lib.ListN.{length, getD, List·getD-eq-default}
 use lib.Pow.{pow-add}
-use Rattle.simd.specs.Basic.{Family, rows, isWidth, table}
+use Rattle.simd.specs.Basic.{Family, rows, isWidth}
 use Rattle.simd.specs.Constants.{start, start224, start256, start384, start512}
 use Rattle.simd.specs.Message.{block}
 use Rattle.simd.specs.Steps.{State, rotl, words, state, rotation, step, steps, mixed, compression}

@@ -4,13 +4,11 @@ use mathlib.Core.List.{List, _++_, append-assoc}
 use mathlib.Core.Path.{_≡_, sym, ap, _∙_}
 use Prim.Native.Nat.{ℕ, _+_, _*_, _-_, _/_, _%_, _^_, _<_}
 use native.Mathlib.Omega.{arith}
-use native.Mathlib.Decide.{decLt}
 use borrow.Author.Tests.{le-leb, eq-eqb}
-use lib.Dec.{lit<}
 use lib.ListN.{length, getD, take, drop, length-drop, length-append, take-append-drop, length-take}
-use lib.Seq.{getD-drop, getD-take, drop-at, take-add}
+use lib.Seq.{getD-drop, drop-at, take-add}
 use Rattle.simd.specs.Basic.{familyOf, blockBytes, blockBits, stateWords, wordsOf, bytesOf}
-use Rattle.laws.proofs.Bits.{getD-bitsOf, getD-take-past}
+use Rattle.laws.proofs.Bits.{getD-bitsOf}
 use Rattle.laws.proofs.Bounds.{below-take}
 use Rattle.laws.proofs.LittleEndian.{length-bytesOf, length-wordsOf, words-bytes, bytes-words, sum-lt, wordsOf-fit}
 use Rattle.bits.specs.Zero.{allZero, clear, padded}

@@ -2,7 +2,7 @@
 -- fit in its place.
 use mathlib.Core.Bool.{true}
 use mathlib.Core.List.{List, _++_}
-use mathlib.Core.Path.{_≡_, refl, sym, ap, _∙_}
+use mathlib.Core.Path.{_≡_, sym, ap, _∙_}
 use Prim.Native.Nat.{ℕ, _*_, _<_}
 use native.Mathlib.Omega.{arith}
 use borrow.Author.Tests.{lt-leb}
@@ -15,7 +15,7 @@ use Rattle.hash.proofs.Feeding.{bits-message}
 use Rattle.hash.proofs.Refusing.{passed, accepted}
 use Rattle.hash_theorems.proofs.Held.{long}
 use Rattle.hash_theorems.proofs.Theorems.{restored-width}
-use Rattle.hmac.specs.Keyed.{legal, width, feedRefusal, feedAnswer, fed}
+use Rattle.hmac.specs.Keyed.{legal, width, feedRefusal, feedAnswer}
 use Rattle.hmac.specs.Form.{keyedForm, front, back, hmacOf, storeRefusal, storeAnswer, restoreAnswer}
 use Rattle.hmac.specs.declared.Hmac.{Hmac}
 use Rattle.hmac.specs.declared.Opened.{Opened}

@@ -2,14 +2,14 @@
 -- the end, and no two starts reach one end.
 use mathlib.Core.Bool.{Bool}
 use mathlib.Core.List.{List, [], _++_, append-assoc, append-nil}
-use mathlib.Core.Path.{_≡_, refl, sym, ap, _∙_, subst}
+use mathlib.Core.Path.{_≡_, refl, sym, ap, _∙_}
 use Prim.Native.Nat.{ℕ, _+_, _*_, _-_, _^_, _<_, _≤_}
 use native.Mathlib.Omega.{arith}
 use native.Mathlib.Decide.{decLt}
 use borrow.Author.Tests.{eq-eqb, le-leb}
 use lib.Dec.{lit<}
-use lib.ListN.{length, getD, take, drop, length-take, length-drop, length-append, List·getD-append, List·getD-eq-default}
-use lib.Seq.{take-add, take-all, take-at, drop-at, getD-take, getD-drop, getD-append-add}
+use lib.ListN.{length, getD, take, drop, length-take, length-drop, length-append, List·getD-eq-default}
+use lib.Seq.{take-add, take-all, take-at, drop-at, getD-take, getD-drop}
 use Rattle.simd.specs.Basic.{Family, rows, stateWords, blockBytes, familyOf, wordsOf, bytesOf}
 use Rattle.simd.specs.Expansion.{expanded}
 use Rattle.simd.specs.Steps.{State, words, state, steps}

@@ -1,5 +1,5 @@
 -- The answer's refusal, or what storing its hash answers and leaves.
-use mathlib.Core.Path.{refl, ap}
+use mathlib.Core.Path.{refl}
 use borrow.Author.Needs.{needs}
 use Rattle.hash.specs.Form.{formOf, storeAnswer, storeRefusal}
 use Rattle.hash.specs.declared.Hash.{Hash}
