@@ -512,7 +512,9 @@ static inline const char *simd_refusal_text(uint8_t refusal)
        restore.c above does.  Fed in place, it has no room for the length:
        SIMD_REFUSED_OUTPUT, after all other refusals, with nothing changed.
    So no call writes an old form; to store a restored one again is to keep it in
-   today's size.
+   today's size.  The size is all that tells the two apart: hand over exactly as many
+   bytes as were stored.  An old form in a longer buffer, handed over with the length
+   of the buffer, is read as one of today's size, if that is its length.
 
    A form handed over is refused with
      SIMD_REFUSED_FORM    form_len is below 2
@@ -552,9 +554,9 @@ SIMD_CALL uint8_t simd_feed(uint8_t *form, size_t form_len,
 /* simd_take - take the digest of what was fed
 
    Writes the digest to the first SIMD_DIGEST(width) bytes of out; the width is
-   the form's, which may be an old one.  The hash stays open: form is not changed
-   and may be fed on.  *blocks becomes the number of blocks compressed: 2 where bits
-   were left over full blocks, else 1.
+   the form's.  The hash stays open: form is not changed and may be fed on, an old
+   one once it is restored.  *blocks becomes the number of blocks compressed: 2 where
+   bits were left over full blocks, else 1.
 
    Refusals, in order:
      those of a form
@@ -656,9 +658,9 @@ SIMD_CALL uint8_t simd_hmac_feed(uint8_t *form, size_t form_len,
 /* simd_hmac_take - take the tag of what was fed
 
    Writes the tag to the first SIMD_DIGEST(width) bytes of tag; the width is the
-   form's, which may be an old one.  The keyed hash stays open: form is not changed
-   and may be fed on.  *blocks becomes the number of blocks compressed: 4 where bits
-   were left over full blocks, else 3; 2 of them are the outer hash's.
+   form's.  The keyed hash stays open: form is not changed and may be fed on, an old
+   one once its halves are restored.  *blocks becomes the number of blocks compressed:
+   4 where bits were left over full blocks, else 3; 2 of them are the outer hash's.
 
    Refusals, in order:
      those of a keyed form

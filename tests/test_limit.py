@@ -169,12 +169,16 @@ class Room:
         libc.munmap(self.start, PAGE + self.size + PAGE)
 
 
-def check_whole(tally, run):
-    """Digests in one call: those of the run, and of the longest message at 224 that of the baseline's own call."""
+def check_whole(tally, run, in_pieces):
+    """Digests in one call: those of the run, and of the longest message those of the baseline's own call, also at the
+    width at which it is fed in pieces."""
     digests = [(run.width, bits, run.digest(bits)) for bits in LENGTHS]
-    longest = (ctypes.c_uint8 * 28)()
-    baseline.base_hash(224, ctypes.c_void_p(run.address), ctypes.c_uint64(LONGER), longest)
-    for width, bits, digest in (*digests, (224, LONGER, bytes(longest))):
+    for width in (224, in_pieces.width):
+        longest = (ctypes.c_uint8 * (width // 8))()
+        baseline.base_hash(width, ctypes.c_void_p(run.address), ctypes.c_uint64(LONGER), longest)
+        digests.append((width, LONGER, bytes(longest)))
+    tally.equal(in_pieces.digest(LONGER), bytes(longest), "%d bits by the baseline, block by block and in one call" % LONGER)
+    for width, bits, digest in digests:
         what, room = "%d bits at %d" % (bits, width), bytes(width // 8) + REST
         given = width, run.address, size_of(bits)
         tally.equal(product.call(door.simd_hash, *given, bits, product.Lent(room)), (0, digest + REST), what)
@@ -527,7 +531,7 @@ def main():
     check_keys(tally)
     address = mapped(ending())
     runs = {width: Run(width, address) for width in (256, 512)}
-    check_whole(tally, runs[256])
+    check_whole(tally, runs[256], runs[512])
     check_pieces(tally, runs[512])
     check_indexes(tally, runs)
     check_comparisons(tally, address)

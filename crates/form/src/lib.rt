@@ -1,4 +1,4 @@
-// The bytes of a stored form, written and read part by part; its head, and bytes copied, serve an index too.
+// The bytes of a stored form, written and read part by part; its head, words that are read, and bytes copied, serve an index too.
 
 ghost use mathlib.Core.Path.{_≡_};
 ghost use mathlib.Core.List.{_++_};
@@ -81,7 +81,7 @@ pub fn read_words(bytes: &[u8], at: usize, words: usize) -> [u32; 32]
     state
 }
 
-// So many bytes from a place on, at most 128.
+// The bytes from a place to the end, so many and at most 128.
 fn read_bytes(bytes: &[u8], at: usize, count: usize) -> [u8; 128]
     requires { ⌜ (at + count ≡ length (now bytes)) × (count ≤ 128) ⌝ }
     ensures { λ r. ⌜ r ≡ padded 128 (drop at (now (bytes .entry))) ⌝ }

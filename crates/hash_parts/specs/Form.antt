@@ -10,7 +10,7 @@ use Rattle.bits.specs.Zero.{clear}
 use Rattle.form.specs.Head.{headBytes, formWidth, formBits}
 pub use Rattle.form.specs.Size.{formBytes, formFamily}
 
--- 8 under 2 bytes; 1 where the width is none of the four; 8 where the form is not as long as the width asks; 9 where a bit is set past the tail.
+-- 8 under 2 bytes; 1 where the width is none of the four; 8 where the form has not today's size; 9 where a bit is set past the tail.
 unfoldable pub restoreRefusal : List ℕ → ℕ
 restoreRefusal form =
     cond (leb 2 (length form))

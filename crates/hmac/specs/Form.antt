@@ -29,7 +29,7 @@ front form = take (length form / 2) form
 unfoldable pub back : List ℕ → List ℕ
 back form = drop (length form / 2) form
 
--- The keyed form of today that a keyed form stands for, each half by its own size.
+-- The keyed form of today that a keyed form stands for, each half by its own size; both halves are as long, so that both are old or both of today.
 unfoldable pub currentKeyed : List ℕ → List ℕ
 currentKeyed form = current (front form) ++ current (back form)
 

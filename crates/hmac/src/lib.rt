@@ -159,7 +159,7 @@ impl Hmac {
         }
     }
 
-    // The keyed hash of a stored form. Refusals 8, 1, 8, 9 of the front half, then of the back half, then 5.
+    // The keyed hash of a stored form, whose halves may be of the old size. Refusals 8, 1, 8, 9 of the front half, then of the back half, then 5.
     pub fn restore(form: &[u8]) -> Opened
         ensures { λ r. ⌜ r ≡ restoreAnswer (now (form .entry)) ⌝ }
     {

@@ -83,11 +83,11 @@ unfolding opened
 opened-known r k none = ap (λ (r : ℕ). opened r k) none
 
 module _ (form : List ℕ) (fits : (i : ℕ) → getD form i 0 < 256) (none : restoreAnswer form .refusal ≡ 0) where
-  front-fits : (i : ℕ) → getD (front form) i 0 < 256
+  pub front-fits : (i : ℕ) → getD (front form) i 0 < 256
   unfolding front
   front-fits = below-take 256 (length form / 2) form fits
 
-  back-fits : (i : ℕ) → getD (back form) i 0 < 256
+  pub back-fits : (i : ℕ) → getD (back form) i 0 < 256
   unfolding back
   back-fits i = rw (getD-drop (length form / 2) form i 0) (fits (length form / 2 + i))
 

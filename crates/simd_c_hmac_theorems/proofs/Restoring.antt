@@ -1,27 +1,30 @@
 -- Old keyed forms through the calls for C: simd_restore of each half makes the new one, and simd_hmac_feed refuses an old one, whose new form does not
 -- fit in its place.
 use mathlib.Core.Bool.{true}
-use mathlib.Core.List.{List, _++_}
+use mathlib.Core.List.{List, _++_, append-nil}
 use mathlib.Core.Path.{_≡_, sym, ap, _∙_}
 use Prim.Native.Nat.{ℕ, _*_, _<_}
 use native.Mathlib.Omega.{arith}
 use borrow.Author.Tests.{lt-leb}
-use lib.ListN.{length, getD}
+use lib.ListN.{length, getD, drop}
+use lib.Seq.{drop-length}
 use Rattle.simd.specs.Basic.{familyOf}
 use Rattle.simd.specs.Message.{message}
-use Rattle.hash.specs.Open.{first, advanced, holding, pieceRefusal}
-use Rattle.hash.specs.Form.{formBytes, oldFormBytes, formFamily, formOf, restoreAnswer as restored}
+use Rattle.hash.specs.Open.{first, advanced, holding, pieceRefusal, written}
+use Rattle.hash.specs.Form.{formBytes, oldFormBytes, formFamily, formOf, current, restoreAnswer as restored}
 use Rattle.hash.proofs.Feeding.{bits-message}
 use Rattle.hash.proofs.Refusing.{passed, accepted}
 use Rattle.hash_theorems.proofs.Held.{long}
 use Rattle.hash_theorems.proofs.Theorems.{restored-width}
 use Rattle.hmac.specs.Keyed.{legal, width, feedRefusal, feedAnswer}
-use Rattle.hmac.specs.Form.{keyedForm, front, back, hmacOf, storeRefusal, storeAnswer, restoreAnswer}
+use Rattle.hmac.specs.Form.{keyedForm, front, back, currentKeyed, hmacOf, storeRefusal, storeAnswer, restoreAnswer}
 use Rattle.hmac.specs.declared.Hmac.{Hmac}
 use Rattle.hmac.specs.declared.Opened.{Opened}
 use Rattle.hmac_theorems.proofs.Tags.{further, further-legal, fed-once}
-use Rattle.hmac_theorems.proofs.Forms.{Values, refusals, restored-is, restored-stored}
+use Rattle.hmac_theorems.proofs.Forms.{Values, front-fits, back-fits, refusals, restored-is, restored-stored}
 use Rattle.hmac_theorems.proofs.Ignored.{fed-refusal}
+use Rattle.simd_c_forms.specs.Calls.{restoreCall}
+use Rattle.simd_c_theorems.proofs.Restoring.{restore-accepted, restore-bytes}
 use Rattle.simd_c_hmac.specs.Calls.{fedFrom, feedCall}
 
 -- A keyed form that is accepted, and its keyed hash.
@@ -29,10 +32,32 @@ module _ (form : List ℕ) (fits : (i : ℕ) → getD form i 0 < 256) (none : re
   abbrev k : Hmac
   k = restoreAnswer form .hmac
 
-  -- What simd_restore writes of its halves, one behind the other, is its form of today.
-  pub halves-restored : formOf (restored (front form) .hash) ++ formOf (restored (back form) .hash) ≡ keyedForm k
-  unfolding keyedForm hmacOf
-  halves-restored = sym (ap (λ (o : Opened). keyedForm (o .hmac)) (restored-is form fits none))
+  -- simd_restore takes each of its halves, and what it writes of them to two buffers of their size, one behind the other, is its form of today.
+  module _ (one two : List ℕ) (room-one : length one ≡ formBytes (formFamily (front form)))
+      (room-two : length two ≡ formBytes (formFamily (back form))) where
+    abbrev restored-to : List ℕ → List ℕ → List ℕ
+    restored-to half out = written (restoreCall half out) (formOf (restored half .hash)) out
+
+    pub halves-accepted : (restoreCall (front form) one ≡ 0) × (restoreCall (back form) two ≡ 0)
+    halves-accepted = (
+      restore-accepted (front form) (front-fits form fits none) (refusals form fits none .0) one (omega (arith, room-one)),
+      restore-accepted (back form) (back-fits form fits none) (refusals form fits none .1 .0) two (omega (arith, room-two)),
+    )
+
+    whole : (half out : List ℕ) → ((i : ℕ) → getD half i 0 < 256) → restored half .refusal ≡ 0 → length out ≡ formBytes (formFamily half)
+        → restored-to half out ≡ current half
+    whole half out bytes accepted room =
+        restore-bytes half bytes accepted out (omega (arith, room))
+        ∙ ap (λ (n : ℕ). current half ++ drop n out) (sym room)
+        ∙ ap (λ (l : List ℕ). current half ++ l) (drop-length out)
+        ∙ append-nil (current half)
+
+    pub halves-restored : restored-to (front form) one ++ restored-to (back form) two ≡ keyedForm k
+    unfolding currentKeyed
+    halves-restored =
+        let first = whole (front form) one (front-fits form fits none) (refusals form fits none .0) room-one in
+        let second = whole (back form) two (back-fits form fits none) (refusals form fits none .1 .0) room-two in
+        (λ i. first i ++ second i) ∙ sym (restored-stored form fits none .0)
 
   good : legal k ≡ true
   good = restored-stored form fits none .1

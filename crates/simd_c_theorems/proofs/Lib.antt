@@ -1,4 +1,5 @@
 pub mod Opening
 pub mod Theorems
 pub mod Restoring
+pub mod Limit
 pub mod Ignored

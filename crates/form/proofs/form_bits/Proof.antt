@@ -6,6 +6,9 @@ use Rattle.form.proofs.Current.{shorter-bits, longer-bits, at-least}
 use Rattle.form.proofs.form_bits.Statement.{statement}
 use Rattle.form.proofs.form_bits.Tie as tie
 
+read-word-requires : tie.Need-read-word-requires
+read-word-requires c κs = let s = c .before .before in omega (arith, at-least (s .args .form .now) (s .pre .2))
+
 returns : tie.Need-returns
 returns c =
     let s = c .before .before .before in
@@ -19,6 +22,4 @@ returns-2 c =
 pub form-bits-spec : {M : Type 1} → statement M
 form-bits-spec =
     tie.close
-    (tie.spec (λ c. omega arith) (λ c. omega arith)
-    (λ c κs. omega (arith, at-least (c .before .before .args .form .now) (c .before .before .pre .2))) (λ c. search needs) returns
-    (λ c κs. search needs) returns-2)
+    (tie.spec (λ c. omega arith) (λ c. omega arith) read-word-requires (λ c. search needs) returns (λ c κs. search needs) returns-2)

@@ -34,6 +34,9 @@ asked : (c : tie.After-block-bytes) → let form = start (accepted c) .args .for
     (c .block-bytes .result ≡ blockBytes (formFamily form)) × (c .block-bytes .result ≤ 128) × (length (current form) ≡ formBytes (formFamily form))
 asked c = (sized c, omega (arith, sized c, bytes-within (formFamily (start (accepted c) .args .form .now))), whole (accepted c))
 
+read-width-requires : tie.Need-read-width-requires
+read-width-requires c κs = omega (arith, at-least (start c .args .form .now) (whole c))
+
 returns : tie.Need-returns
 returns c =
     let refusal = c .before .before .restore-refusal in
@@ -55,5 +58,5 @@ returns-2 c =
 pub restore-spec : {M : Type 1} → statement M
 restore-spec =
     tie.close
-    (tie.spec (λ c κs. search needs) (λ c κs. search needs) returns (λ c κs. omega (arith, at-least (start c .args .form .now) (whole c)))
-    (λ c κs. search needs) (λ c κs. asked c) (λ c κs. asked (c .before)) (λ c κs. asked (c .before .before)) returns-2)
+    (tie.spec (λ c κs. search needs) (λ c κs. search needs) returns read-width-requires (λ c κs. search needs) (λ c κs. asked c)
+    (λ c κs. asked (c .before)) (λ c κs. asked (c .before .before)) returns-2)
