@@ -346,10 +346,10 @@ extern "C" {
 
 /* VERSION of this library; that of the function is always SIMD v1.1 */
 
-#define SIMD_VERSION_MAJOR 1
+#define SIMD_VERSION_MAJOR 2
 #define SIMD_VERSION_MINOR 0
 #define SIMD_VERSION_PATCH 0
-#define SIMD_VERSION "1.0.0"
+#define SIMD_VERSION "2.0.0"
 
 /* Marks each call: where the compiler knows how, it warns of an answer that is
    not looked at, and of a null pointer that it sees in a call. */
@@ -472,7 +472,7 @@ static inline const char *simd_refusal_text(uint8_t refusal)
     case SIMD_REFUSED_SPARE: return "retired: bits past the count are ignored";
     case SIMD_REFUSED_TOTAL: return "more than 18446744073709551615 bits in all";
     case SIMD_REFUSED_HASH: return "the open or keyed hash is none";
-    case SIMD_REFUSED_OUTPUT: return "the output is too short";
+    case SIMD_REFUSED_OUTPUT: return "the output, or an old form fed in place, is too short";
     case SIMD_REFUSED_BLOCK: return "the block, state or digest has not the width's size";
     case SIMD_REFUSED_FORM: return "the stored form has neither of its width's sizes";
     case SIMD_REFUSED_TAIL: return "a bit of the stored form is set past its tail";
@@ -510,7 +510,8 @@ static inline const char *simd_refusal_text(uint8_t refusal)
        old keyed form.
      - To feed it, simd_restore it first, into a buffer of SIMD_FORM(width) bytes, as
        restore.c above does.  Fed in place, it has no room for the length:
-       SIMD_REFUSED_OUTPUT, after all other refusals, with nothing changed.
+       SIMD_REFUSED_OUTPUT, after all other refusals, with nothing changed; that is
+       found only when the piece has been hashed.
    So no call writes an old form; to store a restored one again is to keep it in
    today's size.  The size is all that tells the two apart: hand over exactly as many
    bytes as were stored.  An old form in a longer buffer, handed over with the length

@@ -12,7 +12,7 @@ one of 2^20 + 3 bits more than 2^32 whole and in pieces.  They are zeros in memo
 is mapped and never stored, but for their last pages.  The tapes are one file of 4,096
 FULL commands, mapped 4,096 times in a row.  What is expected comes from the states
 that tests/baseline/portable.c reaches, and from the reference for the last blocks.
-Each call runs at one or two widths, so that all of it takes about a minute.
+Each call runs at one or two widths, so that all of it takes one to two minutes.
 """
 
 import ctypes
@@ -301,9 +301,10 @@ def check_indexes(tally, runs):
             new.close()
 
 
-def check_comparisons(tally, address):
-    """Equal messages, also with other bits past the count, messages whose last bit differs, and one that is longer."""
-    other = mapped(ending())
+def check_comparisons(tally, runs):
+    """Equal messages, also with other bits past the count, messages whose last bit differs, and ones that are longer, by
+    2^32 bits too; that the digests of these differ is the baseline's."""
+    address, other = runs[256].address, mapped(ending())
 
     def compare(width, a_bits, b_bits):
         return product.call(door.simd_compare, width, address, size_of(a_bits), a_bits, other, size_of(b_bits), b_bits,
@@ -317,7 +318,10 @@ def check_comparisons(tally, address):
         flip(other, bits - 1)
         tally.equal(compare(width, bits, bits), (0, door_ref.APART, 0), what + ": the last bit differs")
         flip(other, bits - 1)
-    tally.equal(compare(256, TURN, TURN - 1), (0, door_ref.APART, 0), "%d bits compared with the first of them" % TURN)
+    for width, a_bits, b_bits in ((256, TURN, TURN - 1), (512, LONGER, LONGER - TURN), (256, LONGER - TURN, LONGER)):
+        what = "%d bits compared with %d at %d" % (a_bits, b_bits, width)
+        tally.equal(runs[width].digest(a_bits) == runs[width].digest(b_bits), False, what + ": the digests")
+        tally.equal(compare(width, a_bits, b_bits), (0, door_ref.APART, 0), what)
 
 
 def check_turns(tally):
@@ -358,12 +362,20 @@ def check_keyed(tally, address):
     tally.equal(form_ref.bits_of(held), TURN + 1 + 8 * size, "the inner length")
 
 
-def check_long_key(tally, run):
-    """A key of 2^32 bits, which is hashed first."""
-    size = form_ref.keyed_size(run.width)
-    found = product.call(door.simd_hmac_open, run.width, run.address, TURN // 8, product.Lent(bytes(size)))
-    expected = door_ref.hmac_open(run.width, run.digest(TURN), bytes(size))
-    tally.equal(found, expected, "a key of %d bits at %d" % (TURN, run.width))
+def check_long_keys(tally, opened_at, whole_at):
+    """Keys of 2^32 bits, and of a byte less and more, which are hashed first: opened at one width, in one call at
+    another."""
+    piece = b"a reading"
+    for bits in (TURN - 8, TURN, TURN + 8):
+        for run, call in ((opened_at, door.simd_hmac_open), (whole_at, door.simd_hmac)):
+            fresh = bytes(form_ref.keyed_size(run.width))
+            form, key = door_ref.hmac_open(run.width, run.digest(bits), fresh)[1], (run.width, run.address, bits // 8)
+            if call is door.simd_hmac_open:
+                given, expected = (product.Lent(fresh),), form
+            else:
+                expected = door_ref.tag_of(door_ref.hmac_feed(form, piece, 8 * len(piece))[1])[0]
+                given = product.const(piece), 8 * len(piece), product.Lent(bytes(len(expected)))
+            tally.equal(product.call(call, *key, *given), (0, expected), "%s, a key of %d bits" % (call.__name__, bits))
 
 
 def check_tapes(tally, run):
@@ -534,10 +546,10 @@ def main():
     check_whole(tally, runs[256], runs[512])
     check_pieces(tally, runs[512])
     check_indexes(tally, runs)
-    check_comparisons(tally, address)
+    check_comparisons(tally, runs)
     check_turns(tally)
     check_keyed(tally, address)
-    check_long_key(tally, runs[256])
+    check_long_keys(tally, runs[256], runs[512])
     check_tapes(tally, runs[256])
     tally.equal(as_mapped(address, ending()), True, "the message as it was")
     return tally.finish("forms and lengths at 18,446,744,073,709,551,615 bits, messages of 4,294,967,295 and more")

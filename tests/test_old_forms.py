@@ -9,11 +9,14 @@ reference's; restored, it is the same bytes with four zeros behind its length, a
 on as the reference does, also across 4,294,967,295 bits.  Fed in place it is refused
 with 6, after every other refusal, and nothing is written.  So keyed forms, whose
 halves are restored one by one, and mixed ones, which are refused.  Old indexes are
-refused, and made again they correct.  Every set of broken rules is tried for the order
+refused, and made again they correct.  What the library of that time wrote is recorded
+in tests/edges/old_forms.txt, and is read as the rest is.  Every set of broken rules is tried for the order
 of refusals; then N random messages, each stored in an old form at a random place.
 """
 
 import itertools
+import os
+import pathlib
 import sys
 
 from tally import Tally, bits_of, message, random_arguments
@@ -34,6 +37,9 @@ OTHER = {224: 256, 256: 224, 384: 512, 512: 384}     # the other width of the fa
 FAR = {224: 512, 256: 384, 384: 256, 512: 224}       # one of the other family
 UNKNOWN = (0, 1, 128, 160, 223, 225, 255, 257, 383, 385, 511, 513, 65535)
 SPARES = (0, 1, 4, 200)     # by how much a room is longer than what is written
+OLD_LARGE = 262
+RECORDED = os.path.join(os.path.dirname(os.path.abspath(__file__)), "edges", "old_forms.txt")
+RECORDED_KEY = b"the key of a group"
 
 
 def tails(width):
@@ -75,10 +81,14 @@ def lengths(width):
     yield from (OLD_LIMIT, OLD_LIMIT - 1, OLD_LIMIT - 2, 2 ** 24, 2 ** 31 - 1, 2 ** 31)
 
 
+def honest_form(width, data, bits):
+    return product.feed(opened(width), data, bits)[1]
+
+
 def honest(rng, width, bits):
     """(a message, the form that it leaves)."""
     data = message(rng, bits)
-    return data, product.feed(opened(width), data, bits)[1]
+    return data, honest_form(width, data, bits)
 
 
 # Forms
@@ -165,6 +175,55 @@ def check_honest(tally, rng):
                 digest = ref.digest(width, joined(data, bits, piece, count), bits + count)
                 tally.equal(product.take(longer, bytes(width // 8))[:2], (0, digest), what + " and %d" % count)
     return forms.count
+
+
+def check_recorded(tally):
+    """Forms, keyed forms and indexes that the library wrote while a length had 4 bytes, with the digests and tags that
+    it gave (tests/edges/old_forms.txt)."""
+    lines = [line.split() for line in pathlib.Path(RECORDED).read_text(encoding="utf-8").splitlines()]
+    lines = [line for line in lines if line and line[0] != "#"]
+    for kind, width, bits, stored, result in lines:
+        width, bits, stored, result = int(width), int(bits), bytes.fromhex(stored), bytes.fromhex(result)
+        data = bytes((7 * k + 3) % 256 for k in range(-(-bits // 8)))
+        what, room = "%s of %d bits at %d, by the library then" % (kind, bits, width), bytes(width // 8)
+        piece, more = b"\x5a\xc3", 13
+        longer = joined(data, bits, piece, more), bits + more
+        if kind == "form":
+            tally.equal(product.take(stored, room)[:2], (0, result), what + ": taken")
+            tally.equal(ref.digest(width, data, bits), result, what + ": the reference")
+            refusal, new = product.restore(stored, bytes(form_ref.size(width)))
+            tally.equal((refusal, new), (0, honest_form(width, data, bits)), what + ": restored")
+            fed = product.feed(new, piece, more)[1]
+            tally.equal(product.take(fed, room)[:2], (0, ref.digest(width, *longer)), what + ": fed on")
+        elif kind == "keyed":
+            tally.equal(product.hmac_take(stored, room)[:2], (0, result), what + ": taken")
+            tally.equal(hmac_ref.tag(width, RECORDED_KEY, data, bits), result, what + ": the reference")
+            tally.equal(product.hmac_check(stored, result, NUMBER), (0, 1), what + ": checked")
+            new = b"".join(product.restore(one, bytes(form_ref.size(width)))[1] for one in door_ref.halves(stored))
+            fed = product.hmac_feed(new, piece, more)[1]
+            tag = hmac_ref.tag(width, RECORDED_KEY, *longer)
+            tally.equal(product.hmac_take(fed, room)[:2], (0, tag), what + ": fed on")
+        else:
+            size = index_ref.size(width, bits)
+            tally.equal(ref.digest(width, data, bits), result, what + ": the reference")
+            for number in (0, bits // ref.block_bits(width)):
+                found = product.reindex(width, data, bits, stored, number, bytes(size), room, NUMBER)
+                tally.equal(found, (15, bytes(size), room, NUMBER), what + ": refused")
+            refusal, index, digest, _ = product.index(width, data, bits, bytes(size), room)
+            tally.equal((refusal, digest, index[form_ref.HEAD:]), (0, result, stored[form_ref.OLD_HEAD:]), what + ": made again")
+    kinds = set(itertools.product(("form", "keyed", "index"), ref.WIDTHS))
+    tally.equal({(kind, int(width)) for kind, width, *_ in lines}, kinds, "the kinds recorded")
+    return len(lines)
+
+
+def check_old_programs(tally):
+    """What a program meets that was compiled with the old sizes, and lends the larger one of them at every width."""
+    for width in ref.WIDTHS:
+        refusal, form = product.open(width, bytes(OLD_LARGE))
+        tally.equal(refusal, 6 if width > 256 else 0, "%d bytes lent at %d" % (OLD_LARGE, width))
+        if not refusal:
+            given = form[:form_ref.old_size(width)]
+            tally.equal(product.feed(given, b"abc", 24, NUMBER), (9, given, NUMBER), "then fed by the old size at %d" % width)
 
 
 def check_sizes(tally, rng):
@@ -455,9 +514,11 @@ def main():
         before = tally.compared
         counts.append(check(tally, rng))
         print("old forms, %s: %d" % (check.__name__[6:].replace("_", " "), tally.compared - before))
+    recorded = check_recorded(tally)
+    check_old_programs(tally)
     check_random(tally, rng, count)
-    return tally.finish("%d forms, %d for the order, %d keyed ones, %d indexes, %d random messages"
-                        % (counts[0] + counts[1], counts[3], counts[4] + counts[5], counts[6], count))
+    return tally.finish("%d forms, %d for the order, %d keyed ones, %d indexes, %d recorded ones, %d random messages"
+                        % (counts[0] + counts[1], counts[3], counts[4] + counts[5], counts[6], recorded, count))
 
 
 if __name__ == "__main__":

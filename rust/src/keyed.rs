@@ -161,14 +161,14 @@ impl Hmac {
         right == 1
     }
 
-    /// The keyed form, 276 or 532 bytes: the stored form of the inner hash, then that of the outer
+    /// The keyed form, twice [`form_len`] bytes: the stored form of the inner hash, then that of the outer
     /// one. It is as secret as the key.
     pub fn store(&self) -> &[u8] {
         &self.form[..self.len]
     }
 
-    /// The keyed hash of a keyed form; also of an old one, of 268 or 524 bytes, which is stored again
-    /// in today's size. Refused: of the first half and then of the second [`Refusal::Form`],
+    /// The keyed hash of a keyed form; also of an old one, of twice [`old_form_len`](crate::old_form_len)
+    /// bytes, which is stored again in today's size. Refused: of the first half and then of the second [`Refusal::Form`],
     /// [`Refusal::Width`], [`Refusal::Tail`]; then [`Refusal::Hash`].
     pub fn restore(form: &[u8]) -> Result<Hmac, Refusal> {
         // A form that has a tag is legal, and so are its halves.

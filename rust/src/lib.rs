@@ -61,6 +61,7 @@ pub const BITS_MAX: u64 = u64::MAX;
 
 /// The bytes that a stored form and an index begin with: width and bit length.
 const HEAD: usize = 10;
+const OLD_HEAD: usize = 6;
 const FORM_MAX: usize = 266;
 const DIGEST_MAX: usize = 64;
 const BLOCK_MAX: usize = 128;
@@ -79,9 +80,15 @@ fn block_len(width: u16) -> usize {
     }
 }
 
-/// The bytes of a stored form.
-fn form_len(width: u16) -> usize {
+/// The bytes of a stored form at one of the four widths, 138 or 266; a keyed form has twice as many.
+pub fn form_len(width: u16) -> usize {
     HEAD + 2 * block_len(width)
+}
+
+/// The bytes of an old stored form, 134 or 262, whose bit length has 4 bytes in place of 8; an old
+/// keyed form has twice as many.
+pub fn old_form_len(width: u16) -> usize {
+    OLD_HEAD + 2 * block_len(width)
 }
 
 /// The bits of so many bytes. Refused: [`Refusal::Total`] where they are more than a count can be.
@@ -329,13 +336,13 @@ impl Hash {
         }
     }
 
-    /// The stored form, 138 or 266 bytes.
+    /// The stored form, [`form_len`] bytes.
     pub fn store(&self) -> &[u8] {
         &self.form[..self.len]
     }
 
-    /// The hash of a stored form; also of an old one, of 134 or 262 bytes, which is stored again in
-    /// today's size. Refused: [`Refusal::Form`], [`Refusal::Width`], [`Refusal::Tail`].
+    /// The hash of a stored form; also of an old one, of [`old_form_len`] bytes, which is stored again
+    /// in today's size. Refused: [`Refusal::Form`], [`Refusal::Width`], [`Refusal::Tail`].
     pub fn restore(form: &[u8]) -> Result<Hash, Refusal> {
         let mut hash = Hash {
             form: [0; FORM_MAX],

@@ -86,7 +86,7 @@ impl fmt::Display for Refusal {
             Refusal::Spare => "retired: bits past the count are ignored",
             Refusal::Total => "more than 18446744073709551615 bits in all",
             Refusal::Hash => "the open or keyed hash is none",
-            Refusal::Output => "the output is too short",
+            Refusal::Output => "the output, or an old form fed in place, is too short",
             Refusal::Block => "the block, state or digest has not the width's size",
             Refusal::Form => "the stored form has neither of its width's sizes",
             Refusal::Tail => "a bit of the stored form is set past its tail",

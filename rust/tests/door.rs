@@ -7,8 +7,9 @@ use std::io::Write;
 use std::path::Path;
 
 use simd::{
-    compare, expand, hash, hash_bytes, hmac, hmac_bytes, index, page_entry, quote, quote_check,
-    reindex, steps, tape, Hash, Hmac, Indexed, Refusal, Verdict, BITS_MAX, NUMBER_MAX,
+    compare, expand, form_len, hash, hash_bytes, hmac, hmac_bytes, index, old_form_len, page_entry,
+    quote, quote_check, reindex, steps, tape, Hash, Hmac, Indexed, Refusal, Verdict, BITS_MAX,
+    NUMBER_MAX,
 };
 
 const WIDTHS: [u16; 4] = [224, 256, 384, 512];
@@ -263,6 +264,42 @@ fn lengths_above_32_bits() {
     }
 }
 
+/// A message that 32 bits do not count goes whole through every call that takes one, and gives what an
+/// open hash makes of it in pieces; that one is held to another program by tests/test_limit.py.
+#[test]
+fn a_message_above_32_bits() {
+    const BITS: u64 = (1 << 32) + 1;
+    let mut data = vec![0; (1 << 29) + 1];
+    data[1 << 29] = 0xff;
+    let mut open = Hash::open(256).unwrap();
+    for part in data[..1 << 29].chunks(1 << 28) {
+        open.feed_bytes(part).unwrap();
+    }
+    assert_eq!(open.bits(), 1 << 32);
+    assert_eq!(hash_bytes(256, &data[..1 << 29]), Ok(open.take().digest));
+    open.feed(&data[1 << 29..], 1).unwrap();
+    let digest = open.take().digest;
+    assert_eq!(open.bits(), BITS);
+    assert_eq!(hash(256, &data, BITS), Ok(digest));
+
+    let fresh = index(256, &data, BITS).unwrap();
+    assert_eq!((fresh.digest, fresh.blocks), (digest, (1 << 23) + 2));
+    let mut keyed = Hmac::open(256, b"a key").unwrap();
+    keyed.feed(&data, BITS).unwrap();
+    assert_eq!(keyed.bits(), BITS);
+    assert_eq!(hmac(256, b"a key", &data, BITS), Ok(keyed.take().tag));
+
+    let verdict = compare(256, &data, BITS, &data[..1], 1);
+    assert_eq!(verdict, Ok(Verdict::Apart));
+    assert_eq!(compare(256, &data, BITS, &data, BITS), Ok(Verdict::Same));
+    // The last bit corrected, from the last block on.
+    data[1 << 29] = 0;
+    let corrected = reindex(256, &data, BITS, &fresh.index, 1 << 23).unwrap();
+    assert_eq!(corrected.blocks, 18);
+    assert_eq!(corrected.digest, hash(256, &data, BITS).unwrap());
+    assert_ne!(corrected.digest, digest);
+}
+
 /// The digests of appendix A, by hashes that went through old forms between their pieces.
 #[test]
 fn old_forms_go_on_in_todays_size() {
@@ -301,6 +338,7 @@ fn sizes_of_stored_forms() {
         (384, [262, 266]),
         (512, [262, 266]),
     ] {
+        assert_eq!([old_form_len(width), form_len(width)], sizes);
         for len in 0..600 {
             let mut form = vec![0; len];
             let restore = |form: &[u8]| Hash::restore(form).map(|open| open.store().len());
@@ -1186,7 +1224,10 @@ fn refusals_have_numbers_and_words() {
     assert_eq!(Refusal::Order.number(), 12);
     assert_eq!(Refusal::Entry.number(), 14);
     assert_eq!(Refusal::Index.number(), 15);
-    assert_eq!(Refusal::Output.to_string(), "the output is too short");
+    assert_eq!(
+        Refusal::Output.to_string(),
+        "the output, or an old form fed in place, is too short"
+    );
 }
 
 #[test]

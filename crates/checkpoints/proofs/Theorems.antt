@@ -13,6 +13,7 @@ use Rattle.simd.specs.Message.{message, block, messageBlocks}
 use Rattle.simd.specs.Hash.{digest, compressions}
 use Rattle.form.specs.Head.{headBytes, head}
 use Rattle.form.specs.Size.{oldHeadBytes}
+use Rattle.form.proofs.Current.{old-sizes}
 use Rattle.form.proofs.Forming.{length-head, written-width, written-bits}
 use Rattle.hash.specs.Open.{limit, first, pieceRefusal}
 use Rattle.hash.proofs.Feeding.{at-widths, start-length, length-message}
@@ -76,18 +77,17 @@ unfolding indexOf
 fits-own-length width m n short good = sym (written-bits width (length m) _ (omega arith)) ∙ fit good .bits-read
 
 -- An index with a head of the old size, whose bit length has 4 bytes, fits no width and no message, whatever its states are.
-old-sizes : (f g : Family) (j k : ℕ) → oldHeadBytes + blockBytes f * j ≡ headBytes + blockBytes g * k → ⊥
-old-sizes small small j k same = omega arith
-old-sizes small large j k same = omega arith
-old-sizes large small j k same = omega arith
-old-sizes large large j k same = omega arith
+module _ (f : Family) (k : ℕ) (old : List ℕ) (size : length old ≡ oldHeadBytes + blockBytes f * k) where
+  old-unfit : (width n b : ℕ) → fitRefusal width n old b ≡ 15
+  unfolding fitRefusal fits
+  old-unfit width n b =
+      let g = familyOf width in
+      rw (ne-eqb (length old) (indexBytes width n) (λ same. old-sizes f g k (kept g n) (sym size ∙ same)))
 
-pub old-index-refused : (f : Family) (k : ℕ) (index : List ℕ) → length index ≡ oldHeadBytes + blockBytes f * k
-    → (width n b : ℕ) → fitRefusal width n index b ≡ 15
-unfolding fitRefusal fits
-old-index-refused f k index size width n b =
-    let g = familyOf width in
-    rw (ne-eqb (length index) (indexBytes width n) (λ same. old-sizes f g k (kept g n) (sym size ∙ same)))
+  pub old-index-refused : (width : ℕ) (bytes : List ℕ) (count b indexRoom room : ℕ) → messageRefusal width bytes count ≡ 0
+      → reindexRefusal width bytes count old b indexRoom room ≡ 15
+  unfolding reindexRefusal first
+  old-index-refused width bytes count b indexRoom room none = rw (none, old-unfit width count b)
 
 -- From the index of an earlier message as long as m and equal to it in all blocks before b, a correction makes what a fresh run of m makes.
 pub corrected-fresh : (width : ℕ) → isWidth width ≡ true → (earlier m : List ℕ) → length earlier ≡ length m

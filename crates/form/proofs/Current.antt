@@ -9,7 +9,7 @@ use borrow.Author.Tests.{eq-eqb, ne-eqb}
 use lib.Dec.{lit<}
 use lib.ListN.{length, getD, take, drop, length-take, length-drop, length-append, List·getD-append}
 use lib.Seq.{getD-take, getD-drop, drop-at, drop-drop}
-use Rattle.simd.specs.Basic.{Family, familyOf, blockBytes, stateWords, wordsOf, table, sum}
+use Rattle.simd.specs.Basic.{Family, small, large, familyOf, blockBytes, stateWords, wordsOf, table, sum}
 use Rattle.laws.proofs.Bounds.{below-append, below-take, below-table}
 use Rattle.laws.proofs.Sum.{sum-ext}
 use Rattle.laws.proofs.Table.{length-table}
@@ -173,6 +173,13 @@ module _ (form : List ℕ) where
 
     pub tail-read : drop (head + size) form ≡ drop (headBytes + blockBytes f) (current form)
     tail-read = current-rest whole (blockBytes f) (head + size) (omega (arith, at-least whole))
+
+-- A head of the old size with blocks behind it is as long as no head of today with blocks behind it, whatever the families are.
+pub old-sizes : (f g : Family) (j k : ℕ) → oldHeadBytes + blockBytes f * j ≡ headBytes + blockBytes g * k → ⊥
+old-sizes small small j k same = omega arith
+old-sizes small large j k same = omega arith
+old-sizes large small j k same = omega arith
+old-sizes large large j k same = omega arith
 
 -- A widened form is one of today.
 pub current-widened : (form : List ℕ) → length form ≡ oldFormBytes (formFamily form) → current (widened form) ≡ widened form

@@ -5,6 +5,7 @@ use Prim.Native.Nat.{ℕ, _+_, _*_, _-_}
 use lib.Dec.{eqb}
 use lib.ListN.{length, take, drop}
 use Rattle.simd.specs.Basic.{Family, familyOf, blockBytes, table}
+use Rattle.little_endian.specs.Numbers.{littleEndian}
 use Rattle.form.specs.Head.{headBytes, formWidth}
 
 -- The bytes of a form: its head, a state and a block.
@@ -14,9 +15,15 @@ formBytes f = headBytes + 2 * blockBytes f
 abbrev pub formFamily : List ℕ → Family
 formFamily form = familyOf (formWidth form)
 
--- Those of an old head, and of an old form.
+-- An old head, its bytes, and those of an old form.
+abbrev pub oldLengthBytes : ℕ
+oldLengthBytes = 4
+
+abbrev pub oldHead : ℕ → ℕ → List ℕ
+oldHead width bits = littleEndian 2 width ++ littleEndian oldLengthBytes bits
+
 abbrev pub oldHeadBytes : ℕ
-oldHeadBytes = 2 + 4
+oldHeadBytes = 2 + oldLengthBytes
 
 abbrev pub oldFormBytes : Family → ℕ
 oldFormBytes f = oldHeadBytes + 2 * blockBytes f

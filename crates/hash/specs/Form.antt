@@ -8,6 +8,7 @@ use lib.ListN.{length, take, drop}
 use Rattle.simd.specs.Basic.{blockBytes, stateWords, wordsOf, bytesOf}
 use Rattle.bits.specs.Zero.{padded}
 use Rattle.form.specs.Head.{headBytes, head, formWidth, formBits}
+use Rattle.form.specs.Size.{oldHead}
 use Rattle.hash.specs.Open.{family, legal, reached, opened}
 use Rattle.hash.specs.declared.Hash.{Hash}
 use Rattle.hash.specs.declared.Opened.{Opened}
@@ -19,6 +20,11 @@ unfoldable pub use Rattle.hash_parts.specs.Form.{restoreRefusal}
 unfoldable pub formOf : Hash → List ℕ
 formOf h =
     head (h .width) (h .bits) ++ bytesOf (reached h) ++ take (blockBytes (family h)) (h .tail)
+
+-- What was stored while a hash held its length in 32 bits.
+unfoldable pub oldFormOf : Hash → List ℕ
+oldFormOf h =
+    oldHead (h .width) (h .bits) ++ bytesOf (reached h) ++ take (blockBytes (family h)) (h .tail)
 
 unfoldable pub storeRefusal : Hash → List ℕ → ℕ
 storeRefusal h out = cond (legal h) (cond (leb (formBytes (family h)) (length out)) 0 6) 5

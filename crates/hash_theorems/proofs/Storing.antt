@@ -82,10 +82,10 @@ module _ (h : Hash) where
   tail-part = take (blockBytes (family h)) (h .tail)
 
   module _ (l : Long h) where
-    block-bytes : length state-part ≡ size
+    pub block-bytes : length state-part ≡ size
     block-bytes = omega (arith, length-bytesOf (reached h), length-reached h (l .words))
 
-    tail-bytes : length tail-part ≡ size
+    pub tail-bytes : length tail-part ≡ size
     tail-bytes = omega (arith, length-take size (h .tail), l .bytes, bytes-within (family h))
 
     pub form-length : length (formOf h) ≡ formBytes (family h)

@@ -3,7 +3,7 @@ use mathlib.Core.Bool.{true, cond}
 use mathlib.Core.Logic.{_⊎_, ⊎-elim}
 use mathlib.Core.List.{List, [], _∷_, _++_}
 use mathlib.Core.Path.{_≡_, refl, sym, ap, _∙_}
-use Prim.Native.Nat.{ℕ, zero, suc, _+_, _*_, _/_, _%_, _<_, _≤_}
+use Prim.Native.Nat.{ℕ, zero, suc, _+_, _*_, _/_, _%_, _^_, _<_, _≤_}
 use native.Mathlib.Nat.{zero-add}
 use native.Mathlib.Omega.{arith}
 use borrow.Author.Tests.{le-leb, eq-eqb, ne-eqb}
@@ -24,7 +24,7 @@ use Rattle.hash.specs.declared.Opened.{Opened}
 use Rattle.bits.specs.Zero.{clear}
 use Rattle.form.specs.Head.{headBytes, formWidth, formBits}
 use Rattle.form.proofs.Current.{current-today, current-old, current-current, current-width, current-long, current-fits, two-sizes, old-size, today-size}
-use Rattle.hash.specs.Form.{formBytes, oldFormBytes, formFamily, formOf, widened, current, hashOf, restoreRefusal, restoreAnswer}
+use Rattle.hash.specs.Form.{formBytes, oldFormBytes, formFamily, formOf, oldFormOf, widened, current, hashOf, restoreRefusal, restoreAnswer}
 use Rattle.hash.proofs.Holding.{Sized, Value}
 pub use Rattle.hash_theorems.proofs.Cutting.{Piece, joined, Wholes, bits-joined, Answer, inTurn, Feeding, all-joined}
 use Rattle.hash_theorems.proofs.Held.{long, held-state, held-tail, held-legal}
@@ -35,6 +35,7 @@ use Rattle.hash.proofs.Digests.{digest-length}
 use Rattle.hash.proofs.Ignored.{opened-refusal, neither}
 use Rattle.hash_parts.proofs.Accepted.{form-facts}
 use Rattle.hash_theorems.proofs.Storing.{form-hash, form-today, form-accepted, read-legal, read-value, read-form}
+use Rattle.hash_theorems.proofs.OldForms.{old-form-size, old-form-widened}
 
 -- An open hash fed a piece, and all pieces of a cutting.
 unfoldable pub feedPiece : Hash → Piece → Answer Hash
@@ -311,6 +312,11 @@ module _ (form : List ℕ) (old : length form ≡ oldFormBytes (formFamily form)
 
   pub old-stored : ((i : ℕ) → getD form i 0 < 256) → restoreAnswer form .refusal ≡ 0 → formOf (restoreAnswer form .hash) ≡ widened form
   old-stored fits e = restored-stored form fits e .0 ∙ current-old form old
+
+-- What was stored while a hash held its length in 32 bits is restored to the hash that was stored.
+pub old-form-restored : (h : Hash) → Value h → legal h ≡ true → h .bits < 2 ^ 32 → restoreAnswer (oldFormOf h) ≡ record { hash = h; refusal = 0 }
+old-form-restored h v good short =
+    old-restored (oldFormOf h) (old-form-size h v) ∙ ap restoreAnswer (old-form-widened h v short) ∙ stored-restored h v good
 
 -- Of the forms of a known width 8 spares those of the two sizes that the width has, and no others.
 module _ (form : List ℕ) (known : isWidth (formWidth form) ≡ true) (long : 2 ≤ length form) where

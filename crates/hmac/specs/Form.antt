@@ -6,7 +6,7 @@ use lib.Dec.{leb}
 use lib.ListN.{length, take, drop}
 use Rattle.simd.specs.Basic.{familyOf}
 use Rattle.hash.specs.Open.{first}
-use Rattle.hash.specs.Form.{formBytes, formOf, current, restoreAnswer as restored}
+use Rattle.hash.specs.Form.{formBytes, formOf, oldFormOf, current, restoreAnswer as restored}
 use Rattle.hmac.specs.Keyed.{legal, width, opened}
 use Rattle.hmac.specs.declared.Hmac.{Hmac}
 use Rattle.hmac.specs.declared.Opened.{Opened}
@@ -14,6 +14,10 @@ use Rattle.hmac.specs.declared.Stored.{Stored}
 
 unfoldable pub keyedForm : Hmac → List ℕ
 keyedForm k = formOf (k .inner) ++ formOf (k .outer)
+
+-- What was stored while a hash held its length in 32 bits.
+unfoldable pub oldKeyedForm : Hmac → List ℕ
+oldKeyedForm k = oldFormOf (k .inner) ++ oldFormOf (k .outer)
 
 -- Store: 5, then 6.
 unfoldable pub storeRefusal : Hmac → List ℕ → ℕ
@@ -29,7 +33,7 @@ front form = take (length form / 2) form
 unfoldable pub back : List ℕ → List ℕ
 back form = drop (length form / 2) form
 
--- The keyed form of today that a keyed form stands for, each half by its own size; both halves are as long, so that both are old or both of today.
+-- The keyed form of today that a keyed form stands for, each half by its own size. Where neither half is refused both are old or both of today.
 unfoldable pub currentKeyed : List ℕ → List ℕ
 currentKeyed form = current (front form) ++ current (back form)
 

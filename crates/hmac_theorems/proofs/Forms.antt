@@ -2,23 +2,26 @@
 use mathlib.Core.Bool.{true}
 use mathlib.Core.List.{List, _++_}
 use mathlib.Core.Path.{_≡_, refl, sym, ap, _∙_}
-use Prim.Native.Nat.{ℕ, zero, suc, _+_, _*_, _/_, _<_}
+use Prim.Native.Nat.{ℕ, zero, suc, _+_, _*_, _/_, _^_, _<_}
 use native.Mathlib.Omega.{arith}
 use lib.ListN.{length, getD, length-take, length-drop, length-append, take-append-drop}
 use lib.Seq.{take-at, drop-at, getD-drop}
-use Rattle.simd.specs.Basic.{Family, small, large, familyOf}
+use Rattle.simd.specs.Basic.{Family, familyOf}
 use Rattle.laws.proofs.Bounds.{below-take}
 use Rattle.hash.specs.Open.{family, first}
-use Rattle.form.proofs.Current.{current-old, current-same, widened-size}
-use Rattle.hash.specs.Form.{formBytes, oldFormBytes, formFamily, formOf, widened, restoreAnswer as restored}
+use Rattle.form.specs.Head.{formWidth}
+use Rattle.form.proofs.Current.{current-old, current-same, widened-size, old-sizes}
+use Rattle.hash.specs.Form.{formBytes, oldFormBytes, formFamily, formOf, oldFormOf, widened, restoreAnswer as restored}
 use Rattle.hash.proofs.Holding.{Value}
 use Rattle.hash.proofs.Refusing.{passed, both-passed}
 use Rattle.hash_theorems.proofs.Held.{long}
 use Rattle.hash_theorems.proofs.Storing.{form-length}
-use Rattle.hash_theorems.proofs.Theorems.{stored-restored as hash-restored, restored-stored as hash-stored, old-restored as hash-old}
-use Rattle.hmac_parts.proofs.Keyed.{keyed-facts}
+use Rattle.hash_theorems.proofs.OldForms.{old-form-bytes}
+use Rattle.hash_theorems.proofs.Theorems.{stored-restored as hash-restored, restored-stored as hash-stored, restored-width}
+use Rattle.hash_theorems.proofs.Theorems.{old-restored as hash-old, old-form-restored as hash-old-form}
+use Rattle.hmac_parts.proofs.Keyed.{IsKeyed, keyed-facts}
 use Rattle.hmac.specs.Keyed.{legal, opened}
-use Rattle.hmac.specs.Form.{keyedForm, front, back, currentKeyed, hmacOf, keyedRefusal, restoreAnswer}
+use Rattle.hmac.specs.Form.{keyedForm, oldKeyedForm, front, back, currentKeyed, hmacOf, keyedRefusal, restoreAnswer}
 use Rattle.hmac.specs.declared.Hmac.{Hmac}
 
 -- What every value of the struct keeps to.
@@ -26,51 +29,51 @@ pub record Values (k : Hmac) : Type 0 where
   pub inner : Value (k .inner)
   pub outer : Value (k .outer)
 
--- Stored and restored it is the same.
+-- Two forms of one size, one behind the other, are restored to the keyed hash of their hashes.
+module _ (k : Hmac) (good : legal k ≡ true) (a b : List ℕ) (same-size : length b ≡ length a) where
+  half : length a ≡ length (a ++ b) / 2
+  half = omega (arith, length-append a b)
+
+  joined-restored : restored a ≡ record { hash = k .inner; refusal = 0 } → restored b ≡ record { hash = k .outer; refusal = 0 }
+      → restoreAnswer (a ++ b) ≡ record { hmac = k; refusal = 0 }
+  unfolding restoreAnswer keyedRefusal hmacOf opened first front back
+  joined-restored inner outer =
+      let front-form = ap restored (take-at a b (length (a ++ b) / 2) half) ∙ inner in
+      let back-form = ap restored (drop-at a b (length (a ++ b) / 2) half) ∙ outer in
+      rw (front-form, back-form, good)
+
+-- Stored and restored it is the same, and so it is if it was stored while a hash held its length in 32 bits.
 module _ (k : Hmac) (v : Values k) (good : legal k ≡ true) where
-  abbrev a : List ℕ
-  a = formOf (k .inner)
-
-  abbrev b : List ℕ
-  b = formOf (k .outer)
-
-  same-size : length b ≡ length a
+  facts : IsKeyed (k .inner) (k .outer)
   unfolding legal
+  facts = keyed-facts (k .inner) (k .outer) good
+
+  same-size : length (formOf (k .outer)) ≡ length (formOf (k .inner))
   same-size =
       form-length (k .outer) (long (v .outer .sized))
-      ∙ ap (λ (w : ℕ). formBytes (familyOf w)) (keyed-facts (k .inner) (k .outer) good .one-width)
+      ∙ ap (λ (w : ℕ). formBytes (familyOf w)) (facts .one-width)
       ∙ sym (form-length (k .inner) (long (v .inner .sized)))
-
-  half : length a ≡ length (keyedForm k) / 2
-  unfolding keyedForm
-  half = omega (arith, length-append a b, same-size)
 
   pub keyed-length : length (keyedForm k) ≡ 2 * formBytes (family (k .inner))
   unfolding keyedForm
-  keyed-length = omega (arith, length-append a b, same-size, form-length (k .inner) (long (v .inner .sized)))
-
-  front-form : restored (front (keyedForm k)) ≡ record { hash = k .inner; refusal = 0 }
-  unfolding front keyedForm legal
-  front-form =
-      ap restored (take-at a b (length (keyedForm k) / 2) half)
-      ∙ hash-restored (k .inner) (v .inner) (keyed-facts (k .inner) (k .outer) good .inner-legal)
-
-  back-form : restored (back (keyedForm k)) ≡ record { hash = k .outer; refusal = 0 }
-  unfolding back keyedForm legal
-  back-form =
-      ap restored (drop-at a b (length (keyedForm k) / 2) half)
-      ∙ hash-restored (k .outer) (v .outer) (keyed-facts (k .inner) (k .outer) good .outer-legal)
+  keyed-length = omega (arith, length-append (formOf (k .inner)) (formOf (k .outer)), same-size, form-length (k .inner) (long (v .inner .sized)))
 
   pub stored-restored : restoreAnswer (keyedForm k) ≡ record { hmac = k; refusal = 0 }
-  unfolding restoreAnswer keyedRefusal hmacOf opened first
-  stored-restored = rw (front-form, back-form, good)
+  unfolding keyedForm
+  stored-restored =
+      joined-restored k good (formOf (k .inner)) (formOf (k .outer)) same-size
+      (hash-restored (k .inner) (v .inner) (facts .inner-legal))
+      (hash-restored (k .outer) (v .outer) (facts .outer-legal))
 
--- No old size is one of today, whatever the families are.
-two-families : (f g : Family) → oldFormBytes f ≡ formBytes g → ⊥
-two-families small small same = omega arith
-two-families small large same = omega arith
-two-families large small same = omega arith
-two-families large large same = omega arith
+  -- The outer hash has one block, whose bits 32 bits hold.
+  pub old-form-restored : k .inner .bits < 2 ^ 32 → restoreAnswer (oldKeyedForm k) ≡ record { hmac = k; refusal = 0 }
+  unfolding oldKeyedForm
+  old-form-restored short =
+      let inner-size = old-form-bytes (k .inner) (v .inner) in
+      let outer-size = old-form-bytes (k .outer) (v .outer) ∙ ap (λ (w : ℕ). oldFormBytes (familyOf w)) (facts .one-width) in
+      joined-restored k good (oldFormOf (k .inner)) (oldFormOf (k .outer)) (outer-size ∙ sym inner-size)
+      (hash-old-form (k .inner) (v .inner) (facts .inner-legal) short)
+      (hash-old-form (k .outer) (v .outer) (facts .outer-legal) (omega (arith, facts .exact, facts .long)))
 
 -- An accepted form stored again is the form of today that it stands for, and it is a keyed hash, whether or not a key and a message reach it.
 pub opened-refusal : (r : ℕ) (k : Hmac) → opened r k .refusal ≡ r
@@ -121,11 +124,12 @@ module _ (form : List ℕ) (fits : (i : ℕ) → getD form i 0 < 256) (none : re
   same-bytes size =
       let f = formFamily (front form) in
       let half : length form / 2 ≡ formBytes f = omega arith in
-      let one = current-same (front form) (λ old. two-families (formFamily (front form)) f (sym old ∙ omega (arith, length-take (length form / 2) form))) in
-      let two = current-same (back form) (λ old. two-families (formFamily (back form)) f (sym old ∙ omega (arith, length-drop (length form / 2) form))) in
+      let no-old-half : (f g : Family) → oldFormBytes f ≡ formBytes g → ⊥ = λ f g same. old-sizes f g 2 2 (omega arith) in
+      let one = current-same (front form) (λ old. no-old-half (formFamily (front form)) f (sym old ∙ omega (arith, length-take (length form / 2) form))) in
+      let two = current-same (back form) (λ old. no-old-half (formFamily (back form)) f (sym old ∙ omega (arith, length-drop (length form / 2) form))) in
       restored-stored .0 ∙ (λ i. one i ++ two i) ∙ take-append-drop (length form / 2) form
 
--- An old keyed form, whose halves both are old, gives what its new form gives, and stored again it is that one.
+-- A keyed form whose halves both are old gives what its new form gives.
 module _ (form : List ℕ) (old-front : length (front form) ≡ oldFormBytes (formFamily (front form)))
     (old-back : length (back form) ≡ oldFormBytes (formFamily (back form))) where
   abbrev new : List ℕ
@@ -161,5 +165,27 @@ module _ (form : List ℕ) (old-front : length (front form) ≡ oldFormBytes (fo
   unfolding restoreAnswer keyedRefusal hmacOf
   old-restored = rw (front-new, back-new)
 
-  pub old-stored : ((i : ℕ) → getD form i 0 < 256) → restoreAnswer form .refusal ≡ 0 → keyedForm (restoreAnswer form .hmac) ≡ new
-  old-stored fits none = restored-stored form fits none .0 ∙ old-current
+-- An accepted one of the old size has two old halves, since both are of one width. Stored again it is its new form.
+module _ (form : List ℕ) (fits : (i : ℕ) → getD form i 0 < 256) (none : restoreAnswer form .refusal ≡ 0)
+    (old : length form ≡ 2 * oldFormBytes (formFamily (front form))) where
+  old-front : length (front form) ≡ oldFormBytes (formFamily (front form))
+  unfolding front
+  old-front = omega (arith, old, length-take (length form / 2) form)
+
+  one-width : formWidth (front form) ≡ formWidth (back form)
+  unfolding legal hmacOf
+  one-width =
+      let all = refusals form fits none in
+      sym (restored-width (front form) (all .0))
+      ∙ sym (keyed-facts (restored (front form) .hash) (restored (back form) .hash) (all .1 .1) .one-width)
+      ∙ restored-width (back form) (all .1 .0)
+
+  back-bytes : length (back form) ≡ length (front form)
+  unfolding front back
+  back-bytes = omega (arith, old, length-take (length form / 2) form, length-drop (length form / 2) form)
+
+  old-back : length (back form) ≡ oldFormBytes (formFamily (back form))
+  old-back = back-bytes ∙ old-front ∙ ap (λ (w : ℕ). oldFormBytes (familyOf w)) one-width
+
+  pub old-stored : keyedForm (restoreAnswer form .hmac) ≡ widened (front form) ++ widened (back form)
+  old-stored = restored-stored form fits none .0 ∙ old-current form old-front old-back

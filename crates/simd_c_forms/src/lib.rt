@@ -58,12 +58,12 @@ pub fn feed_form(form: &mut [u8], piece: &[u8], bits: u64, blocks: &mut u64) -> 
 }
 
 // A form, of today's size or the old one, restored and stored in another place.
-pub fn restore_form(form: &[u8], out: &mut [u8]) -> u8
-    ensures { λ r. ⌜ r ≡ restoreCall (now (form .entry)) (now (out .entry)) ⌝ }
-    ensures { λ r. ⌜ now (out .exit) ≡ written (restoreCall (now (form .entry)) (now (out .entry)))
-        (formOf (restoreAnswer (now (form .entry)) .hash)) (now (out .entry)) ⌝ }
+pub fn restore_form(given: &[u8], out: &mut [u8]) -> u8
+    ensures { λ r. ⌜ r ≡ restoreCall (now (given .entry)) (now (out .entry)) ⌝ }
+    ensures { λ r. ⌜ now (out .exit) ≡ written (restoreCall (now (given .entry)) (now (out .entry)))
+        (formOf (restoreAnswer (now (given .entry)) .hash)) (now (out .entry)) ⌝ }
 {
-    let opened = Hash::restore(form);
+    let opened = Hash::restore(given);
     store_opened(opened, out)
 }
 

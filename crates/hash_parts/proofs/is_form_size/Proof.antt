@@ -1,4 +1,5 @@
 -- The old size is the smaller one.
+use native.Mathlib.Omega.{arith}
 use borrow.Author.Needs.{needs}
 use Rattle.simd.specs.Basic.{familyOf}
 use Rattle.hash_parts.proofs.Refusing.{size-above, size-below}
@@ -9,13 +10,14 @@ returns : tie.Need-returns
 returns c =
     let full = c .before .form-bytes in
     let a = c .before .before .args in
-    size-above (familyOf (a .width)) (a .length) (full .result) (full .ensures) (c .if1 .taken)
+    size-above (familyOf (a .width)) (a .length) (full .result) (full .ensures) (omega (arith, c .if1 .taken))
 
 returns-2 : tie.Need-returns-2
 returns-2 c =
     let full = c .before .before .form-bytes in
     let a = c .before .before .before .args in
-    size-below (familyOf (a .width)) (a .length) (full .result) (full .ensures) (c .old-form-bytes .result) (c .old-form-bytes .ensures) (c .before .if1 .left)
+    let old = c .old-form-bytes in
+    size-below (familyOf (a .width)) (a .length) (full .result) (full .ensures) (old .result) (old .ensures) (omega (arith, c .before .if1 .left))
 
 pub is-form-size-spec : {M : Type 1} → statement M
 is-form-size-spec = tie.close (tie.spec (λ c κs. search needs) returns (λ c κs. search needs) returns-2)

@@ -14,11 +14,11 @@ returns : tie.Need-returns
 returns c =
     let t = c .before in
     let a = t .before .before .args in
-    other-size (a .width) (a .count) (a .index .now) (λ e. c .if1 .taken (e ∙ sym (t .index-bytes .ensures)))
+    other-size (a .width) (a .count) (a .index .now) (λ e. omega (arith, c .if1 .taken, e, t .index-bytes .ensures))
 
 -- An index of the right size.
 sized : (c : tie.Else1) → let a = c .before .before .before .args in length (a .index .now) ≡ indexBytes (a .width) (a .count)
-sized c = c .if1 .left ∙ c .before .index-bytes .ensures
+sized c = omega (arith, c .if1 .left, c .before .index-bytes .ensures)
 
 read-width-requires : tie.Need-read-width-requires
 read-width-requires c κs = omega (arith, sized c)
