@@ -1,4 +1,5 @@
 // The bits of a piece put behind those of a tail that may end within a byte, and each block that becomes full compressed.
+#![tactic(auto)]
 
 ghost use Rattle.std.specs.Prelude.{true, ◌≢◌, ◌≡◌, ◌+◌, ◌*◌, ◌/◌, ◌%◌, ◌^◌, ◌<◌, length, drop};
 ghost use Rattle.simd.specs.Basic.{family_of, block_bytes, block_bits, table};

@@ -1,5 +1,6 @@
 // Bits of a byte string: whether all past a place are 0, how they are made 0, and bytes put behind a byte that is not full. Whole bytes are
 // shifted, never single bits.
+#![tactic(auto)]
 
 ghost use Rattle.std.specs.Prelude.{true, ◌≡◌, ◌+◌, ◌*◌, ◌-◌, ◌/◌, ◌^◌, ◌≤◌, ◌<◌, length, drop};
 ghost use Rattle.simd.specs.Basic.{table};

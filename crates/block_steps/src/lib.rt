@@ -1,4 +1,6 @@
 // The 32 steps of one block from the bytes of a state to those of another, forward or back.
+#![tactic(auto)]
+
 ghost use Rattle.std.specs.Prelude.{◌≡◌, length};
 ghost use Rattle.simd.specs.Basic.{small as smallFamily, large as largeFamily};
 ghost use Rattle.words.specs.Columns.{from_columns};

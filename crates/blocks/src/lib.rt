@@ -1,4 +1,6 @@
 // The blocks of a byte string and the length block, of either family: a block has as many bytes as the slice that is lent for it.
+#![tactic(auto)]
+
 ghost use Rattle.std.specs.Prelude.{true, ◌≡◌, ◌+◌, ◌*◌, ◌/◌, ◌%◌, ◌^◌, ◌≤◌, ◌<◌, min, length, get_or, take, drop};
 ghost use Rattle.simd.specs.Basic.{table};
 ghost use Rattle.simd.specs.Message.{byte_of, message};

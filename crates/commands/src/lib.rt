@@ -1,4 +1,6 @@
 // What each command of a tape does to the open hash.
+#![tactic(auto)]
+
 ghost use Rattle.reader.specs.Reading.{Inside};
 ghost use Rattle.reader.specs.declared.Command.TheVariants.{Full, Part};
 ghost use Rattle.commands.specs.Standing.{Obeys, Opens, Takes};
@@ -7,7 +9,7 @@ use hash::Hash;
 use reader::Command;
 
 // The hash after a command, and its refusal or 0.
-#[derive(Drop)]
+#[derive(Clone, Copy)]
 pub struct Step {
     pub hash: Hash,
     pub refusal: u8,

@@ -3,6 +3,8 @@
 // Messages with equal lengths and bits are the same. Of others the leading blocks that are full and equal in both are compressed once, and the rest
 // of each from there on: the final states tell. Where they are equal, `lockstep` finds the number of the block. Of the messages x and y, m and n
 // are the lengths in bits; what stands past them in the bytes is ignored.
+#![tactic(auto)]
+
 ghost use Rattle.std.specs.Prelude.{true, ◌≡◌, ◌*◌, ◌≤◌, length, drop};
 ghost use Rattle.simd.specs.Basic.{family_of, is_width};
 ghost use Rattle.simd.specs.Message.{message};

@@ -1,4 +1,6 @@
 // The compression of both families and the starting states. A state is its words in the published order.
+#![tactic(auto)]
+
 ghost use Rattle.std.specs.Prelude.{◌≡◌, ◌+◌, ◌≤◌, length, get_or};
 ghost use Rattle.simd.specs.Basic.{table};
 ghost use Rattle.simd.specs.Constants.{start224, start256, start384, start512};

@@ -1,4 +1,6 @@
 // Equality of bytes with no early end: all are read, wherever the first differs. The loop also becomes vector code.
+#![tactic(auto)]
+
 ghost use Rattle.std.specs.Prelude.{◌≡◌, length};
 ghost use Rattle.pairs.specs.Lists.{equal};
 

@@ -1,4 +1,6 @@
 // The digest of a message that is at hand whole. No hash is opened: the tables are made once, and full blocks are read in place.
+#![tactic(auto)]
+
 ghost use Rattle.std.specs.Prelude.{◌≡◌, length};
 ghost use Rattle.simd.specs.Message.{message as messageOf};
 ghost use Rattle.simd.specs.Hash.{digest as digestOfMessage};

@@ -1,4 +1,6 @@
 // The message expansion of one block, for both families.
+#![tactic(auto)]
+
 ghost use mathlib.Core.List.{◌++◌, flatten};
 ghost use Rattle.std.specs.Prelude.{◌≡◌, ◌≤◌, length, drop};
 ghost use Rattle.simd.specs.Basic.{small, large, is_width};

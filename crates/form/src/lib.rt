@@ -1,4 +1,5 @@
 // The bytes of a stored form, written and read part by part; its head, words that are read, and bytes copied, serve an index too.
+#![tactic(auto)]
 
 ghost use Rattle.std.specs.Prelude.{◌≡◌, ◌++◌, ◌+◌, ◌*◌, ◌-◌, ◌%◌, ◌≤◌, length, take, drop};
 ghost use Rattle.simd.specs.Basic.{block_bytes, state_words, bytes_of, words_of};

@@ -1,6 +1,7 @@
 // The open hash: opened at a width, fed pieces of any number of bits, taken, stored and restored. Each method hands the hash back with its
 // answer. `refusal` is 0 where nothing is refused, and otherwise the number of what was; then the hash comes back as it was handed over,
 // or all zeros where none was (open, restore), no buffer is written to, and the rest of the answer is 0.
+#![tactic(auto)]
 
 ghost use Rattle.std.specs.Prelude.{cond, ◌≡◌, []};
 ghost use Rattle.simd.specs.Basic.{table};
@@ -13,7 +14,7 @@ ghost use Rattle.hash.specs.Form.{form_of, store_refusal, store_answer, restore_
 pub const LIMIT: u64 = 18446744073709551615;
 
 // The words past the family's state and the bits past the tail are 0.
-#[derive(Drop)]
+#[derive(Clone, Copy)]
 pub struct Hash {
     pub width: u16,
     pub bits: u64,
@@ -21,28 +22,28 @@ pub struct Hash {
     pub tail: [u8; 128],
 }
 
-#[derive(Drop)]
+#[derive(Clone, Copy)]
 pub struct Opened {
     pub hash: Hash,
     pub refusal: u8,
 }
 
 // `blocks` is the number of blocks compressed.
-#[derive(Drop)]
+#[derive(Clone, Copy)]
 pub struct Fed {
     pub hash: Hash,
     pub blocks: usize,
     pub refusal: u8,
 }
 
-#[derive(Drop)]
+#[derive(Clone, Copy)]
 pub struct Taken {
     pub hash: Hash,
     pub blocks: usize,
     pub refusal: u8,
 }
 
-#[derive(Drop)]
+#[derive(Clone, Copy)]
 pub struct Stored {
     pub hash: Hash,
     pub refusal: u8,

@@ -1,4 +1,5 @@
 // What is asked of an open hash by its parts: its starting state, whether they are legal, and whether a stored form is one.
+#![tactic(auto)]
 
 ghost use Rattle.std.specs.Prelude.{cond, ◌||◌, ◌≡◌, leb, eqb, ◌+◌, ◌*◌, ◌≤◌};
 ghost use Rattle.simd.specs.Basic.{family_of, block_bytes};

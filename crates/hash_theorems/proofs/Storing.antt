@@ -72,8 +72,8 @@ module _ (h : Hash) where
   abbrev head_part : List ℕ
   head_part = head h.width h.bits
 
-  head_bytes : length head_part ≡ head_bytes
-  head_bytes = length_head h.width h.bits
+  head_bytes_lem : length head_part ≡ head_bytes
+  head_bytes_lem = length_head h.width h.bits
 
   abbrev state_part : List ℕ
   state_part = bytes_of (reached h)
@@ -91,7 +91,7 @@ module _ (h : Hash) where
     pub form_length : length (form_of h) ≡ form_bytes (family h)
     unfolding form_of
     form_length =
-        omega (arith, three_parts head_part state_part tail_part size head_bytes block_bytes_lem, tail_bytes)
+        omega (arith, three_parts head_part state_part tail_part size head_bytes_lem block_bytes_lem, tail_bytes)
 
   module _ (v : Value h) (good : legal h ≡ true) where
     abbrev l : Long h
@@ -111,14 +111,14 @@ module _ (h : Hash) where
     unfolding form_of
     form_words =
         rw (
-          behind_head head_part state_part tail_part size head_bytes (block_bytes_lem l),
+          behind_head head_part state_part tail_part size head_bytes_lem (block_bytes_lem l),
           ← length_reached h v.sized.words,
         )
         (words_bytes (reached h) tail_part (reached_fits h v.word_fits))
 
     form_tail : drop (head_bytes + size) (form_of h) ≡ tail_part
     unfolding form_of
-    form_tail = behind_state head_part state_part tail_part size head_bytes (block_bytes_lem l)
+    form_tail = behind_state head_part state_part tail_part size head_bytes_lem (block_bytes_lem l)
 
     past_block : all_zero (drop size h.tail) ≡ true
     past_block = bytes_past (used h) size h.tail v.sized.byte_fits (legal_tail h good) (block_within (family h) h.bits)

@@ -64,7 +64,7 @@ module _ (k : Hmac) (out : List ℕ) (r half : ℕ) (size : half ≡ form_bytes 
     a_size = form_length k.inner inner_long ∙ sym size
 
     b_size : length b ≡ half
-    b_size = form_length k.outer outer_long ∙ ap (λ (w : ℕ). form_bytes (family_of w)) (store_facts none).0.one_Width ∙ sym size
+    b_size = form_length k.outer outer_long ∙ ap (λ (w : ℕ). form_bytes (family_of w)) (store_facts none).0.one_width ∙ sym size
 
     first_out : {one : List ℕ} → one ≡ written (hashRefusal k.inner out) a out → one ≡ a ++ drop half out
     first_out wrote =

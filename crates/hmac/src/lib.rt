@@ -1,5 +1,7 @@
 // The keyed hash, HMAC of FIPS 198-1: opened with a key, fed pieces of any number of bits, taken, checked, stored and restored. Each method hands it
 // back with its answer; refusals are as for the open hash. It is as secret as its key.
+#![tactic(auto)]
+
 ghost use Rattle.std.specs.Prelude.{◌≡◌};
 ghost use Rattle.hash.specs.Open.{written};
 ghost use Rattle.hmac.specs.Keyed.{no_hmac, open_answer, feed_answer, tag_of, take_refusal, take_answer, check_answer};
@@ -8,27 +10,27 @@ ghost use Rattle.hmac.specs.Form.{keyed_form, store_refusal, store_answer, resto
 use hash::Hash;
 
 // `inner` was fed K0 xor ipad and then the pieces, `outer` K0 xor opad alone.
-#[derive(Drop)]
+#[derive(Clone, Copy)]
 pub struct Hmac {
     pub inner: Hash,
     pub outer: Hash,
 }
 
-#[derive(Drop)]
+#[derive(Clone, Copy)]
 pub struct Opened {
     pub hmac: Hmac,
     pub refusal: u8,
 }
 
 // `blocks` is the number of blocks compressed.
-#[derive(Drop)]
+#[derive(Clone, Copy)]
 pub struct Fed {
     pub hmac: Hmac,
     pub blocks: usize,
     pub refusal: u8,
 }
 
-#[derive(Drop)]
+#[derive(Clone, Copy)]
 pub struct Taken {
     pub hmac: Hmac,
     pub blocks: usize,
@@ -36,14 +38,14 @@ pub struct Taken {
 }
 
 // `right` is whether the bytes given were the tag.
-#[derive(Drop)]
+#[derive(Clone, Copy)]
 pub struct Checked {
     pub hmac: Hmac,
     pub right: bool,
     pub refusal: u8,
 }
 
-#[derive(Drop)]
+#[derive(Clone, Copy)]
 pub struct Stored {
     pub hmac: Hmac,
     pub refusal: u8,

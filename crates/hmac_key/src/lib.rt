@@ -1,4 +1,6 @@
 // What HMAC makes of a key: K0, a block of its own, and K0 xor either pad. The definition of HMAC stands in specs/Hmac.antt.
+#![tactic(auto)]
+
 ghost use Rattle.std.specs.Prelude.{true, ◌≡◌, ◌*◌, ◌≤◌, length};
 ghost use Rattle.simd.specs.Basic.{is_width};
 ghost use Rattle.bits.specs.Zero.{padded};

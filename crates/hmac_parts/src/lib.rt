@@ -1,4 +1,6 @@
 // The two hashes of a keyed one: how each begins, whether two are such, and the tag that they give.
+#![tactic(auto)]
+
 ghost use Rattle.std.specs.Prelude.{true, cond, ◌≡◌, ◌+◌, ◌≤◌, leb, length};
 ghost use Rattle.simd.specs.Basic.{is_width, digest_bytes};
 ghost use Rattle.simd.specs.Hash.{compressions};

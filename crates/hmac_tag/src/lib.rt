@@ -1,4 +1,6 @@
 // The tag of a message that is at hand whole.
+#![tactic(auto)]
+
 ghost use Rattle.std.specs.Prelude.{◌≡◌, length};
 ghost use Rattle.simd.specs.Message.{message as messageOf};
 ghost use Rattle.hash.specs.Open.{written};

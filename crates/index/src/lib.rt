@@ -1,5 +1,6 @@
 // The index beside a record, with its digest: made by a fresh run, or corrected from an old index without compressing the blocks before the last
 // kept state that is still right.
+#![tactic(auto)]
 
 ghost use Rattle.std.specs.Prelude.{true, ◌≡◌, ◌*◌, ◌-◌, ◌/◌, ◌≤◌, length, take};
 ghost use Rattle.simd.specs.Basic.{family_of, is_width, block_bytes, block_bits, state_words, digest_bytes, bytes_of};

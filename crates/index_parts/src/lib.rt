@@ -1,4 +1,5 @@
 // What a run with an index asks before it starts: the size of the index, whether an old one fits, where a correction starts, and why it is refused.
+#![tactic(auto)]
 
 ghost use Rattle.std.specs.Prelude.{true, ◌≡◌};
 ghost use Rattle.simd.specs.Basic.{family_of};

@@ -1,4 +1,6 @@
 // The inner code (section 1.1.2): a value is lifted to a signed number and multiplied, modulo 65,536.
+#![tactic(auto)]
+
 ghost use Rattle.std.specs.Prelude.{◌≡◌, ℕ, ◌+◌, ◌%◌, ◌<◌, ◌≤◌, length, get_or};
 ghost use Rattle.std.specs.Int.Signed.{mag};
 ghost use Rattle.simd.specs.Basic.{table};

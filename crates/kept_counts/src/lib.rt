@@ -1,4 +1,5 @@
 // Numbers of a message's blocks and of the states that an index keeps of it.
+#![tactic(auto)]
 
 ghost use Rattle.std.specs.Prelude.{◌≡◌, ◌*◌, ◌-◌, ◌/◌, ◌≤◌};
 ghost use Rattle.simd.specs.Basic.{family_of, block_bits};

@@ -1,4 +1,5 @@
 // The states of an index, and the run that makes them: from a state on, every 16th is written before its block is compressed.
+#![tactic(auto)]
 
 ghost use Rattle.std.specs.Prelude.{◌≡◌, min, ◌+◌, ◌*◌, ◌-◌, ◌/◌, ◌≤◌, length, take};
 ghost use Rattle.simd.specs.Basic.{family_of, block_bytes, block_bits, state_words};

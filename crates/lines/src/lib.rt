@@ -1,4 +1,6 @@
 // The lines that `seal` prints, written to the front of a lent text. Each answers its length.
+#![tactic(auto)]
+
 ghost use Rattle.std.specs.Prelude.{◌≡◌, ◌≤◌, length};
 ghost use Rattle.text.specs.Text.{over};
 ghost use Rattle.lines.specs.Lines.{digest_line, done_line, refused_line};

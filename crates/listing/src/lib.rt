@@ -1,4 +1,6 @@
 // What `seal` prints, line by line.
+#![tactic(auto)]
+
 ghost use Rattle.std.specs.Prelude.{◌≡◌, ◌+◌, ◌≤◌, ◌<◌, length};
 ghost use Rattle.text.specs.Text.{over};
 ghost use Rattle.listing.specs.Listing.{sealed, line_of, text_of, last_line};
@@ -8,7 +10,7 @@ use tape::Next;
 
 // The line's bytes in the text, the place at which the next one starts, and whether there is a next one. `refusal` is 6 where the text lent
 // is too short for any line, and then all else is 0.
-#[derive(Drop)]
+#[derive(Clone, Copy)]
 pub struct Line {
     pub refusal: u8,
     pub length: usize,

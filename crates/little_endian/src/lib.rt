@@ -1,4 +1,5 @@
 // Words and numbers in bytes, low byte first.
+#![tactic(auto)]
 
 ghost use Rattle.std.specs.Prelude.{◌≡◌, ◌+◌, ◌*◌, ◌%◌, ◌≤◌, length, take, drop};
 ghost use Rattle.simd.specs.Basic.{bytes_of};

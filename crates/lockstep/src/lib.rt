@@ -1,5 +1,7 @@
 // The number of the block where two messages meet: the blocks of both are compressed side by side. Of the first and the second message, s and t
 // are the states, a and b the bytes, m and n the lengths in bits. Message blocks are numbered back from the last, which is 1.
+#![tactic(auto)]
+
 ghost use Rattle.std.specs.Prelude.{true, cond, ◌&&◌, ◌≡◌, ◌*◌, ◌-◌, ◌≤◌, eqb, length, take};
 ghost use Rattle.simd.specs.Basic.{family_of, is_width, block_bytes, state_words};
 ghost use Rattle.simd.specs.Constants.{start};

@@ -1,4 +1,6 @@
 // The matrix Z and its order P (section 1.2.2). The words of Z are one string, which is cut into rows.
+#![tactic(auto)]
+
 ghost use Rattle.std.specs.Prelude.{[], ◌∷◌, ◌≡◌, ℕ, ◌+◌, ◌*◌, ◌<◌, length, get_or};
 ghost use Rattle.simd.specs.Basic.{small, large, table};
 ghost use Rattle.simd.specs.Constants.{order};

@@ -1,4 +1,6 @@
 // The words of the matrix Z (section 1.2.2) as one string, in the order of its rows, worked out in loops that become vector code.
+#![tactic(auto)]
+
 ghost use Rattle.std.specs.Prelude.{◌++◌, ◌≡◌, ◌+◌, ◌*◌, ◌<◌, ◌≤◌, length, get_or};
 ghost use Rattle.simd.specs.Basic.{table};
 ghost use Rattle.matrix_words.specs.Layers.{neighbours, half as half_of, halves_apart, lower as lowerOf, flat as flatOf, Buffers};

@@ -1,4 +1,6 @@
 // One entry of a page for the ledger binder. The definition of its lines stands in `ledger`.
+#![tactic(auto)]
+
 ghost use Rattle.std.specs.Prelude.{◌≡◌, length};
 ghost use Rattle.hash.specs.Open.{written};
 ghost use Rattle.ledger.specs.Page.{entry_lines, entry_bytes, print_refusal};

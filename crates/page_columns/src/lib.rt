@@ -1,4 +1,6 @@
 // The columns of a line, written into a lent text. Each writes at a place and answers the place after.
+#![tactic(auto)]
+
 ghost use Rattle.std.specs.Prelude.{◌≡◌, [], ◌∷◌, ◌++◌, ◌+◌, ◌≤◌, length, replicate};
 ghost use Rattle.text.specs.Text.{over, decimal as decimalOf, hex as hexOf};
 ghost use Rattle.ledger.specs.Page.{right as rightOf, left as left_of};

@@ -1,4 +1,6 @@
 // The lines of an entry that is not refused, written to the front of a lent text.
+#![tactic(auto)]
+
 ghost use Rattle.std.specs.Prelude.{◌≡◌, ◌≤◌, length};
 ghost use Rattle.text.specs.Text.{over, decimal};
 ghost use Rattle.ledger.specs.Page.{front as frontOf, entry_lines, print_refusal};

@@ -1,10 +1,12 @@
 // The answer of a comparison, and tests on pairs of state and block.
+#![tactic(auto)]
+
 ghost use Rattle.std.specs.Prelude.{◌≡◌};
 ghost use Rattle.pairs.specs.Lists.{equal};
 ghost use Rattle.pairs.specs.Pairs.{unlike as unlikePairs};
 
 // The answer of a comparison: `Meet` has the number of the block, `Refused` that of the rule.
-#[derive(Drop)]
+#[derive(Clone, Copy)]
 pub enum Verdict {
     Same,
     Apart,

@@ -1,4 +1,6 @@
 // The call that quotes a digest. The definition of a quote stands in `check_digits`.
+#![tactic(auto)]
+
 ghost use Rattle.std.specs.Prelude.{◌≡◌, length};
 ghost use Rattle.hash.specs.Open.{written};
 ghost use Rattle.check_digits.specs.Quote.{quote as quoteOf};

@@ -1,4 +1,6 @@
 // The text of a quote: 16 hexadecimal digits and two check digits, written and checked. The definition stands in `check_digits`.
+#![tactic(auto)]
+
 ghost use Rattle.std.specs.Prelude.{◌≡◌, ◌+◌, ◌*◌, ◌%◌, ◌≤◌, ◌<◌, length, get_or};
 ghost use Rattle.text.specs.Text.{over, digit_of};
 ghost use Rattle.check_digits.specs.Quote.{number, check as checkOf, two_digits, quote as quoteOf, digits_below, is_quote, is_right};

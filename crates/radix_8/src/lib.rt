@@ -2,6 +2,8 @@
 // that all factors are powers of 2, and there are no products modulo 257. Of the eight numbers of a place four are bytes, and three are zero. The
 // eighth is empty too, but for 1 at the last place of all, and in a length block for 1 at the last but two: by these each value of the transform
 // has its added constants, w^(-i) and w^(-3i) (sections 1.2.2 and 1.2.4).
+#![tactic(auto)]
+
 ghost use Rattle.std.specs.Prelude.{◌≡◌, ℕ, ◌+◌, ◌*◌, ◌≤◌, ◌<◌, length, get_or};
 ghost use Rattle.radix_8.specs.Pass.{appended, held, Values, Spread, Placed};
 ghost use Rattle.transform_stages.specs.Stage.{Level, Within};

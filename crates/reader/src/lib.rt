@@ -1,9 +1,11 @@
 // The tape reader: which command stands at a place of a tape, or why none does.
+#![tactic(auto)]
+
 ghost use Rattle.std.specs.Prelude.{◌≡◌, ◌+◌, ◌*◌, ◌≤◌, ◌<◌, length, get_or};
 ghost use Rattle.reader.specs.Reading.{read_at};
 
 // A command with its values: OPEN has the width, FULL the place of its 32 bytes, PART its count of bits and the place of its 32 bytes.
-#[derive(Drop)]
+#[derive(Clone, Copy)]
 pub enum Command {
     Open(u16),
     Full(usize),
@@ -13,7 +15,7 @@ pub enum Command {
 }
 
 // A command and the place after it, or a refusal's number and place.
-#[derive(Drop)]
+#[derive(Clone, Copy)]
 pub enum Reading {
     Found(Command, usize),
     Refused(u8, usize),

@@ -1,4 +1,6 @@
 // Open hashes that are none, and those next to them that are: what feeding, taking and storing each of them answers.
+#![tactic(auto)]
+
 use hash::Hash;
 use hmac::Hmac;
 use libc::STDOUT_FILENO;

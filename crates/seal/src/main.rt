@@ -1,5 +1,7 @@
 // Reads a tape from standard input and prints its listing: a line for each digest, and a last line with the count of digests or the refusal.
 // What is printed is worked out by the library; here it is only read and written.
+#![tactic(auto)]
+
 ghost use Rattle.std.specs.Prelude.{◌≡◌, length};
 
 use seal_input::Input;

@@ -1,4 +1,6 @@
 // Reads a tape from standard input.
+#![tactic(auto)]
+
 ghost use Rattle.std.specs.Prelude.{length};
 ghost use Rattle.seal_input.specs.Input.{Within};
 

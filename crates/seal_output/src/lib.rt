@@ -1,4 +1,6 @@
 // Prints a tape's listing, each line as its TAKE is met.
+#![tactic(auto)]
+
 ghost use Rattle.std.specs.Prelude.{◌≡◌, ◌≤◌, length};
 ghost use Rattle.listing.specs.Listing.{sealed, first_line};
 

@@ -1,5 +1,6 @@
 // Whole blocks of a source whose bytes are shifted by part of a byte, compressed. A source that needs no shift is compressed where it lies;
 // another goes through a buffer of several blocks.
+#![tactic(auto)]
 
 ghost use Rattle.std.specs.Prelude.{false, ◌≡◌, ◌++◌, min, ◌+◌, ◌-◌, ◌/◌, ◌%◌, ◌≤◌, length, take, drop};
 ghost use Rattle.simd.specs.Basic.{family_of, block_bytes, state_words, table};

@@ -1,6 +1,8 @@
 // The door for C: each call is total, returns the refusal's number or 0, and on a refusal leaves all that it was lent as it was;
 // a tape keeps the digests before the refused command, and its count and place are told.
 // include/simd.h is its manual. The hash travels as its stored form.
+#![tactic(auto)]
+
 ghost use Rattle.std.specs.Prelude.{cond, ◌≡◌, length};
 ghost use Rattle.simd.specs.Basic.{family_of};
 ghost use Rattle.simd.specs.Message.{message as messageOf};

@@ -1,5 +1,7 @@
 // The calls for C whose answer is numbers behind pointers: the verdict on two messages, the count and the place of a tape, and whether a quote is
 // right.
+#![tactic(auto)]
+
 ghost use Rattle.std.specs.Prelude.{cond, ◌≡◌};
 ghost use Rattle.pairs.specs.Answer.{answer};
 ghost use Rattle.tape.specs.Run.{ran_of, output};

@@ -1,5 +1,7 @@
 // The calls for C that hold a stored form: opened, fed, restored and taken. Each answers the refusal's number or 0, and on a refusal leaves all that it was
 // lent as it was.
+#![tactic(auto)]
+
 ghost use Rattle.std.specs.Prelude.{◌≡◌};
 ghost use Rattle.hash.specs.Open.{take_answer, digest_of, written};
 ghost use Rattle.hash.specs.Form.{form_of, restore_answer};

@@ -1,5 +1,7 @@
 // The calls for C that hold the stored form of a keyed hash: opened, fed, taken and checked. Each answers the refusal's number or 0, and on a refusal
 // leaves all that it was lent as it was.
+#![tactic(auto)]
+
 ghost use Rattle.std.specs.Prelude.{◌≡◌};
 ghost use Rattle.hash.specs.Open.{written};
 ghost use Rattle.hmac.specs.Keyed.{take_answer, check_answer, tag_of};

@@ -1,4 +1,6 @@
 // The numbers of a step, read off the tables by its round and its number. With a literal step number the reads fold to constants.
+#![tactic(auto)]
+
 ghost use Rattle.std.specs.Prelude.{◌≡◌, ◌+◌, ◌/◌, ◌<◌, min};
 ghost use Rattle.simd.specs.Basic.{small, large};
 ghost use Rattle.simd.specs.Constants.{exchange};
@@ -38,7 +40,7 @@ pub fn large_exchange(i: usize) -> usize
 }
 
 // The numbers of step i of 4 rows: the rotation of A, the rotation of the sum, and the row exchange.
-#[derive(Drop)]
+#[derive(Clone, Copy)]
 pub struct StepNumbers {
     pub r: u32,
     pub s: u32,

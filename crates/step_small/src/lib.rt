@@ -1,6 +1,8 @@
 // A step of 4 rows. It takes its numbers as an argument: with a literal step number they fold to constants, and the step is compiled in line.
 // Every step stores the shifted A in its row of `unread`. Nothing reads it: it is there because rows that are stored whole are
 // kept in vector registers; without it the steps are compiled word by word and take three times as long.
+#![tactic(auto)]
+
 ghost use Rattle.std.specs.Prelude.{◌≡◌, ◌+◌, ◌<◌, ◌%◌};
 ghost use Rattle.std.specs.Int.Bits.{bit_xor};
 ghost use Rattle.simd.specs.Basic.{small};

@@ -1,5 +1,7 @@
 // The calls that run the 32 steps of one block alone, forward and backward. Forward takes the bytes of the state already xored with the
 // block; backward takes those of the end and gives that xored state.
+#![tactic(auto)]
+
 ghost use Rattle.std.specs.Prelude.{◌≡◌, length};
 ghost use Rattle.block_steps.specs.Moved.{moved};
 ghost use Rattle.stepping.specs.Call.{size_refusal, steps_refusal, forward, backward, steps_output};

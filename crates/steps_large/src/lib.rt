@@ -1,4 +1,6 @@
 // The rounds of 8 rows: eight steps each, with literal step numbers, so that what a step reads by its number folds to constants.
+#![tactic(auto)]
+
 ghost use Rattle.std.specs.Prelude.{◌≡◌, ◌<◌};
 ghost use Rattle.simd.specs.Basic.{large};
 ghost use Rattle.simd.specs.Steps.{step as step_of, steps as steps_of};

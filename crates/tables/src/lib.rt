@@ -1,5 +1,7 @@
 // The constant tables that several floors read: order P, rotations and row exchanges (sections 1.2.2 and 1.2.3). A constant
 // array is built anew wherever it is named: a loop takes its table once, outside; where every index is a literal the table folds away.
+#![tactic(auto)]
+
 ghost use Rattle.std.specs.Prelude.{◌≡◌};
 ghost use Rattle.simd.specs.Constants.{order as orderP, rotations as quadruples, small_exchanges, large_exchanges};
 

@@ -1,5 +1,6 @@
 // Blocks of a message compressed at a width, and the end of a message: the tail that is left, and the length block. The small family's
 // state stands in the first 16 of 32 words.
+#![tactic(auto)]
 
 ghost use Rattle.std.specs.Prelude.{true, ◌≡◌, ◌*◌, ◌/◌, ◌%◌, ◌≤◌, length, take};
 ghost use Rattle.simd.specs.Basic.{family_of, block_bytes, block_bits, digest_bytes, state_words};

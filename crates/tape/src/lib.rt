@@ -1,4 +1,6 @@
 // The tape run: commands are read one after the other, and each TAKE writes the digest of what its own OPEN .. TAKE fed.
+#![tactic(auto)]
+
 ghost use Rattle.std.specs.Prelude.{cond, ◌≡◌, ◌+◌, ◌^◌, ◌≤◌, ◌<◌, leb, length};
 ghost use Rattle.text.specs.Text.{over};
 ghost use Rattle.tape.specs.Run.{run_into, output, ran_of, next_of, first_output};
@@ -8,7 +10,7 @@ use hash::Hash;
 use reader::{Command, Reading};
 
 // The count of digests, and the refusal's number and place, 0 and 0 where the tape stopped.
-#[derive(Drop)]
+#[derive(Clone, Copy)]
 pub struct Ran {
     pub digests: usize,
     pub refusal: u8,
@@ -16,7 +18,7 @@ pub struct Ran {
 }
 
 // A digest's width and the place after its TAKE, or the number and place with which the run ended before one.
-#[derive(Drop)]
+#[derive(Clone, Copy)]
 pub enum Next {
     Taken(u16, usize),
     Ended(u8, usize),

@@ -1,4 +1,6 @@
 // Numbers and bytes as text, written into a lent text. Each writes at a place and answers the place after.
+#![tactic(auto)]
+
 ghost use Rattle.std.specs.Prelude.{◌≡◌, [], ◌∷◌, ◌++◌, ◌+◌, ◌*◌, ◌≤◌, ◌<◌, length};
 ghost use Rattle.text.specs.Text.{over, digits as digitsOf, decimal as decimalOf, glyph as glyphOf, hex as hexOf, digit_of};
 

@@ -1,5 +1,7 @@
 // The values between a block and its expanded rows, and the states between the steps, for tests that hold them to the published traces. Each
 // call answers as `expansion::expand` does: 1, 7 or 6, or 0.
+#![tactic(auto)]
+
 ghost use Rattle.std.specs.Prelude.{◌≡◌, length};
 ghost use Rattle.expansion.specs.Call.{expand_refusal};
 ghost use Rattle.trace_values.specs.Values.{values, matrix_words};

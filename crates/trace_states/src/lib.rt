@@ -1,4 +1,6 @@
 // The states between the steps of a compression, from the old state and the block, one after another into lent words.
+#![tactic(auto)]
+
 ghost use Rattle.std.specs.Prelude.{[], ◌++◌, ◌≡◌, ◌<◌, ◌≤◌, length, get_or, drop};
 ghost use Rattle.simd.specs.Basic.{small as smallFamily, large as largeFamily};
 ghost use Rattle.trace_states.specs.States.{state_words};

@@ -1,4 +1,6 @@
 // The values between a block and its expanded rows, by the family of a width.
+#![tactic(auto)]
+
 ghost use Rattle.std.specs.Prelude.{◌++◌, ◌≡◌, ◌≤◌, length, drop};
 ghost use Rattle.simd.specs.Basic.{family_of, block_bytes, points};
 ghost use Rattle.trace_values.specs.Values.{values as values_of, matrix_words};

@@ -1,4 +1,6 @@
 // The transform of both families: the number-theoretic transform modulo 257 that splits even and odd places (section 1.2.2).
+#![tactic(auto)]
+
 ghost use Rattle.std.specs.Prelude.{◌≡◌, length};
 ghost use Rattle.simd.specs.Basic.{small as smallFamily, large as largeFamily, table};
 ghost use Rattle.simd.specs.Expansion.{transform};

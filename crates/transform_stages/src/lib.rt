@@ -1,5 +1,7 @@
 // The stages of radix 2, for both families, the shuffles before them and the remainders after them. Numbers are kept modulo 257 in 16 bits, and
 // loops run over neighbouring places, so that they become vector code.
+#![tactic(auto)]
+
 ghost use Rattle.std.specs.Prelude.{◌≡◌, ℕ, ◌+◌, ◌*◌, ◌/◌, ◌%◌, ◌<◌, ◌≤◌, length, slice_index};
 ghost use Rattle.transform_stages.specs.Stage.{Within, Butterfly, Crossed, Leads, Spreads, Shuffled, Begun};
 ghost use Rattle.transform_tables.specs.Roots.{Roots};

@@ -1,5 +1,7 @@
 // The powers of 41 modulo 257, and the roots that the transform reads.
 // A constant array is built anew wherever it is named: a caller takes the table of roots once and lends it for many blocks.
+#![tactic(auto)]
+
 ghost use Rattle.std.specs.Prelude.{◌≡◌, ℕ, ◌+◌, ◌*◌, ◌≤◌, ◌<◌, length};
 ghost use Rattle.simd.specs.Basic.{table};
 ghost use Rattle.simd.specs.Expansion.{power};

@@ -1,4 +1,6 @@
 // The rows of a step backward, of either family: row by row, the rotation and the sum are undone.
+#![tactic(auto)]
+
 ghost use Rattle.std.specs.Prelude.{◌≡◌, ◌%◌, ◌<◌, length, bit_xor};
 ghost use Rattle.simd.specs.Basic.{table};
 ghost use Rattle.unstep_rows.specs.Rows.{sub, rotr, word_a, word_d};

@@ -1,4 +1,6 @@
 // The words of a byte string, and the bytes of a string of words, low byte first.
+#![tactic(auto)]
+
 ghost use Rattle.std.specs.Prelude.{◌≡◌, ◌*◌, ◌/◌, ◌%◌, ◌^◌, ◌<◌, ◌≤◌, length};
 ghost use Rattle.simd.specs.Basic.{words_of, bytes_of};
 

@@ -12,9 +12,9 @@ module _ (f : Family) (i : ℕ) (w : List ℕ) (l : List (List ℕ)) where
   turned : ℕ → ℕ
   turned j = rotl (rotation i i) (get_or (get_or l 0 []) j 0)
 
-  new_b : new_b f (rotation i i) (get_or l 0 []) ≡ table (rows f) turned
+  new_b_lem : new_b f (rotation i i) (get_or l 0 []) ≡ table (rows f) turned
   unfolding new_b turned
-  new_b = ap (λ r. table (rows f) (λ j. rotl r (get_or (get_or l 0 []) j 0))) (mod-eq_of_lt (rotation_below i i))
+  new_b_lem = ap (λ r. table (rows f) (λ j. rotl r (get_or (get_or l 0 []) j 0))) (mod-eq_of_lt (rotation_below i i))
 
   sum : ℕ → ℕ
   sum j = add (add (get_or (get_or l 3 []) j 0) (get_or w j 0)) (choose i (get_or (get_or l 0 []) j 0) (get_or (get_or l 1 []) j 0) (get_or (get_or l 2 []) j 0))
@@ -27,12 +27,12 @@ module _ (f : Family) (i : ℕ) (w : List ℕ) (l : List (List ℕ)) where
       (λ j below.
       let r_is = mod-eq_of_lt (rotation_below i (i + 1)) in
       let y_is = partner_code f i j below in
-      (λ t. add (rotl (r_is t) (sum j)) (get_or (new_b t) (y_is t) 0))
+      (λ t. add (rotl (r_is t) (sum j)) (get_or (new_b_lem t) (y_is t) 0))
       ∙ ap (add (rotl (rotation i (i + 1)) (sum j))) (get_d_table (rows f) turned (partner f i j) 0 (partner_lt f i j below)))
 
   pub stepped_step : stepped f i w l ≡ columns (step f i w (from_columns l))
   unfolding stepped turned sum step
-  stepped_step = λ t. new_a_lem t ∷ new_b t ∷ get_or l 1 [] ∷ get_or l 2 [] ∷ []
+  stepped_step = λ t. new_a_lem t ∷ new_b_lem t ∷ get_or l 1 [] ∷ get_or l 2 [] ∷ []
 
   -- From its parts: new B, the numbers of new A, and new A.
   pub stepped_parts : {a b : List ℕ} {s x : ℕ} → b ≡ new_b f (rotation i i) (get_or l 0 []) → s ≡ rotation i (i + 1) → x ≡ exchange f i →

@@ -1,4 +1,6 @@
 // Words: sum modulo 2^32, shifts, rotation, and the Boolean function of each step.
+#![tactic(auto)]
+
 ghost use Rattle.std.specs.Prelude.{◌≡◌, ◌-◌, ◌*◌, ◌/◌, ◌%◌, ◌^◌};
 ghost use Rattle.simd.specs.Steps.{add, rotl, IF, MAJ, choose};
 

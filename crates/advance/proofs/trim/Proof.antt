@@ -4,13 +4,12 @@ use borrow.Author.Rules.{rules}
 use Rattle.advance.proofs.trim.Statement.{statement}
 use Rattle.advance.proofs.trim.Tie as tie
 
-returns : tie.Need-returns
+returns : tie.Need-returns-then-count-ne0
 returns c =
-    let t = c.before.before.before.before in
-    ((λ even. absurd (t.if1.true even)), (λ odd. c.before.before.cut.ensures))
+    ((λ even. absurd (c.if-count-ne0.true even)), (λ odd. c.cut.ensures))
 
-returns-2 : tie.Need-returns-2
-returns-2 c = ((λ even. refl), (λ odd. absurd (odd c.if1.false)))
+returns-2 : tie.Need-returns-else-count-ne0
+returns-2 c = ((λ even. refl), (λ odd. absurd (odd c.if-count-ne0.false)))
 
-pub trim-spec : {M : Type 1} → statement M
-trim-spec = tie.close (tie.spec (λ c κs. search rules) (λ c. search rules) returns returns-2)
+pub trim_spec : {M : Type 1} → statement M
+trim_spec = tie.close (tie.spec (λ c κs. search rules) (λ c. search rules) returns returns-2)

@@ -9,45 +9,38 @@ use Rattle.bits.proofs.Front.{cut_inside, cut_at_end}
 use Rattle.bits.proofs.cut.Statement.{statement}
 use Rattle.bits.proofs.cut.Tie as tie
 
-abbrev start : tie.After-scale-of → tie.Start
-start c = c.before.before.before.before
-
--- The byte that is written, and that it is one.
-kept : (c : tie.After-scale-of) → let a = (start c).args in
-    c.before.wide.result / 2 ^ (8 - a.from % 8) * c.scale_of.result
+kept : (c : tie.After-scale_of) → let a = c.args in
+    c.wide.result / 2 ^ (8 - a.from % 8) * c.scale_of.result
     ≡ get_or a.bytes.now (a.from / 8) 0 / 2 ^ (8 - a.from % 8) * 2 ^ (8 - a.from % 8)
-kept c = let a = (start c).args in λ i. c.before.wide.ensures.0 i / 2 ^ (8 - a.from % 8) * c.scale_of.ensures.0 i
+kept c = let a = c.args in λ i. c.wide.ensures.0 i / 2 ^ (8 - a.from % 8) * c.scale_of.ensures.0 i
 
-small : (c : tie.After-scale-of) → c.before.wide.result / 2 ^ (8 - (start c).args.from % 8) * c.scale_of.result < 256
+small : (c : tie.After-scale_of) → c.wide.result / 2 ^ (8 - c.args.from % 8) * c.scale_of.result < 256
 small c =
-    let a = (start c).args in
-    let less = div-mul-le_self c.before.wide.result (2 ^ (8 - a.from % 8)) in
-    let same = ap (λ (n : ℕ). c.before.wide.result / 2 ^ (8 - a.from % 8) * n) c.scale_of.ensures.0 in
-    omega (arith, less, same, c.before.wide.ensures.1)
+    let a = c.args in
+    let less = div-mul-le_self c.wide.result (2 ^ (8 - a.from % 8)) in
+    let same = ap (λ (n : ℕ). c.wide.result / 2 ^ (8 - a.from % 8) * n) c.scale_of.ensures.0 in
+    omega (arith, less, same, c.wide.ensures.1)
 
-mul-bytes : tie.Need-overflow-mul-bytes
+mul-bytes : tie.Need-overflow_mul-bytes
 mul-bytes c = record { fits = omega (arith, small c) }
 
-cast-bytes : tie.Need-overflow-cast-bytes
+cast-bytes : tie.Need-overflow_cast-bytes
 cast-bytes c = record { fits = omega (arith, small c) }
 
-returns : tie.Need-returns
+returns : tie.Need-returns-then-at-bytes
 returns c =
-    let k = c.before in
-    let a = (start k).args in
-    cut_inside a.bytes.now a.from (λ j. (k.before.before.slice-known2.given j).fits) (start k).requires.0 (start k).requires.1 _ (kept k)
-    (omega (arith, c.if1.true, length-set a.bytes.now (a.from / 8) (k.before.wide.result / 2 ^ (8 - a.from % 8) * k.scale_of.result)))
+    let a = c.args in
+    cut_inside a.bytes.now a.from (λ j. (c.slice_known-2-1.given j).fits) c.requires.0 c.requires.1 _ (kept c.before)
+    (omega (arith, c.if-at-bytes.true, length-set a.bytes.now (a.from / 8) (c.wide.result / 2 ^ (8 - a.from % 8) * c.scale_of.result)))
 
-returns-2 : tie.Need-returns-2
+returns-2 : tie.Need-returns-else-at-bytes
 returns-2 c =
-    let k = c.before in
-    let a = (start k).args in
-    cut_at_end a.bytes.now a.from (λ j. (k.before.before.slice-known2.given j).fits) (start k).requires.0 (start k).requires.1 _ (kept k)
+    let a = c.args in
+    cut_at_end a.bytes.now a.from (λ j. (c.slice_known-2-1.given j).fits) c.requires.0 c.requires.1 _ (kept c.before)
     (λ inside.
-    omega (arith, inside, c.if1.false, length-set a.bytes.now (a.from / 8) (k.before.wide.result / 2 ^ (8 - a.from % 8) * k.scale_of.result)))
+    omega (arith, inside, c.if-at-bytes.false, length-set a.bytes.now (a.from / 8) (c.wide.result / 2 ^ (8 - a.from % 8) * c.scale_of.result)))
 
 pub cut_spec : {M : Type 1} → statement M
 cut_spec =
     tie.close
-    (tie.spec (λ c. search rules) (λ c κs. search rules) (λ c. search rules) (λ c. search rules) (λ c. search rules) (λ c κs. search rules) mul-bytes
-    cast-bytes (λ c. search rules) (λ c. search rules) (λ c. search rules) (λ c. search rules) (λ c. search rules) returns (λ c. search rules) returns-2)
+    (tie.spec (λ c. search rules) (λ c κs. search rules) (λ c. search rules) (λ c. search rules) (λ c. search rules) (λ c κs. search rules) mul-bytes cast-bytes (λ c. search rules) (λ c. search rules) (λ c. search rules) (λ c. search rules) (λ c. search rules) returns (λ c. search rules) returns-2)

@@ -7,5 +7,5 @@ use Rattle.bits.proofs.scale_of.Tie as tie
 returns : tie.Need-returns
 returns c = scale_power c.args.held c.requires
 
-pub scale-of-spec : {M : Type 1} → statement M
-scale-of-spec = tie.close (tie.spec (λ c. search rules) (λ c. search rules) returns)
+pub scale_of_spec : {M : Type 1} → statement M
+scale_of_spec = tie.close (tie.spec (λ c. search rules) (λ c. search rules) returns)

@@ -10,34 +10,26 @@ use Rattle.bits.proofs.Stream.{with_shifted_full, with_shifted_set}
 use Rattle.bits.proofs.write_shifted.Statement.{statement}
 use Rattle.bits.proofs.write_shifted.Tie as tie
 
-abbrev start : tie.After-shift → tie.Start
-start c = c.before.before.before.before
-
-returns : tie.Need-returns
+returns : tie.Need-returns-then-end-whole
 returns c =
-    let k = c.before.before.before in
-    let s = start k in
-    let a = s.args in
-    let shift = k.shift in
-    let size = part_size a.at (length a.src.now) a.buffer.now s.pre.1 in
+    let a = c.args in
+    let shift = c.shift-last in
+    let size = part_size a.at (length a.src.now) a.buffer.now c.requires.1 in
     let wrote = shift.ensures.0 ∙ ap (λ (n : ℕ). table n (shifted a.scale a.carry a.src.now)) size in
     let carried = shift.ensures.1 ∙ ap (carry_at a.scale a.carry a.src.now) size in
-    with_shifted_set a.buffer.now a.at a.scale a.carry a.src.now shift.new.1.1.1.0 s.pre.1 s.fits.carry.fits wrote
-    shift.result carried c.if1.true
+    with_shifted_set a.buffer.now a.at a.scale a.carry a.src.now shift.new.dst c.requires.1 c.ranges.carry.fits wrote
+    shift.result carried c.if-end-whole.true
 
-returns-2 : tie.Need-returns-2
+returns-2 : tie.Need-returns-else-end-whole
 returns-2 c =
-    let k = c.before.before.before in
-    let s = start k in
-    let a = s.args in
-    let shift = k.shift in
-    let size = part_size a.at (length a.src.now) a.buffer.now s.pre.1 in
+    let a = c.args in
+    let shift = c.shift-last in
+    let size = part_size a.at (length a.src.now) a.buffer.now c.requires.1 in
     let wrote = shift.ensures.0 ∙ ap (λ (n : ℕ). table n (shifted a.scale a.carry a.src.now)) size in
-    with_shifted_full a.buffer.now a.at a.scale a.carry a.src.now shift.new.1.1.1.0 s.pre.1 s.fits.carry.fits wrote
-    c.if1.false
+    with_shifted_full a.buffer.now a.at a.scale a.carry a.src.now shift.new.dst c.requires.1 c.ranges.carry.fits wrote
+    c.if-end-whole.false
 
-pub write-shifted-spec : {M : Type 1} → statement M
-write-shifted-spec =
+pub write_shifted_spec : {M : Type 1} → statement M
+write_shifted_spec =
     tie.close
-    (tie.spec (λ c. search rules) (λ c. search rules) (λ c. search rules) (λ c. search rules) (λ c κs. search rules)
-    (λ c. search rules) (λ c. search rules) returns (λ c. search rules) returns-2)
+    (tie.spec (λ c. search rules) (λ c. search rules) (λ c. search rules) (λ c. search rules) (λ c κs. search rules) (λ c. search rules) (λ c. search rules) returns (λ c. search rules) returns-2)

@@ -8,18 +8,13 @@ use Rattle.block_steps.proofs.large.Tie as tie
 
 returns : tie.Need-returns
 returns c =
-    let flat = c.before.before.before.before.before in
-    let split = flat.before.before.before in
-    let read = split.before.before in
-    let expanded = read.before.before in
-    let a = expanded.before.before.before.before.before.before.args in
-    let turned = flat.before.turned-large in
-    c.before.before.write.ensures
+    let a = c.args in
+    let turned = c.turned_large in
+    c.write.ensures
     ∙ bytes_moved a.back large a.last a.state.now a.block.now turned.result
-    read.read.ensures expanded.expand-large.ensures split.split.ensures turned.ensures flat.flat.ensures
+    c.read.ensures c.expand_large-w.ensures c.split-start.ensures turned.ensures c.flat-y.ensures
 
-pub large-spec : {M : Type 1} → statement M
-large-spec =
+pub large_spec : {M : Type 1} → statement M
+large_spec =
     tie.close
-    (tie.spec (λ c κs. search rules) (λ c κs. search rules) (λ c. search rules) (λ c κs. search rules) (λ c κs. search rules)
-    (λ c κs. search rules) (λ c κs. search rules) (λ c. search rules) (λ c κs. search rules) (λ c. search rules) returns)
+    (tie.spec (λ c κs. search rules) (λ c κs. search rules) (λ c. search rules) (λ c κs. search rules) (λ c κs. search rules) (λ c κs. search rules) (λ c κs. search rules) (λ c. search rules) (λ c κs. search rules) (λ c. search rules) returns)

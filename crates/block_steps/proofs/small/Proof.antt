@@ -8,18 +8,13 @@ use Rattle.block_steps.proofs.small.Tie as tie
 
 returns : tie.Need-returns
 returns c =
-    let flat = c.before.before.before.before.before in
-    let split = flat.before.before.before in
-    let read = split.before.before in
-    let expanded = read.before.before in
-    let a = expanded.before.before.before.before.before.before.args in
-    let turned = flat.before.turned-small in
-    c.before.before.write.ensures
+    let a = c.args in
+    let turned = c.turned_small in
+    c.write.ensures
     ∙ bytes_moved a.back small a.last a.state.now a.block.now turned.result
-    read.read.ensures expanded.expand-small.ensures split.split.ensures turned.ensures flat.flat.ensures
+    c.read.ensures c.expand_small-w.ensures c.split-start.ensures turned.ensures c.flat-y.ensures
 
 pub small_spec : {M : Type 1} → statement M
 small_spec =
     tie.close
-    (tie.spec (λ c κs. search rules) (λ c κs. search rules) (λ c. search rules) (λ c κs. search rules) (λ c κs. search rules)
-    (λ c κs. search rules) (λ c κs. search rules) (λ c. search rules) (λ c κs. search rules) (λ c. search rules) returns)
+    (tie.spec (λ c κs. search rules) (λ c κs. search rules) (λ c. search rules) (λ c κs. search rules) (λ c κs. search rules) (λ c κs. search rules) (λ c κs. search rules) (λ c. search rules) (λ c κs. search rules) (λ c. search rules) returns)

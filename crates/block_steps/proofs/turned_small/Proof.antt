@@ -4,13 +4,13 @@ use Rattle.block_steps.specs.Moved.{turned}
 use Rattle.block_steps.proofs.turned_small.Statement.{statement}
 use Rattle.block_steps.proofs.turned_small.Tie as tie
 
-returns : tie.Need-returns
+returns : tie.Need-returns-then-back
 unfolding turned
-returns c = rw c.before.if1.true c.unsteps.ensures
+returns c = rw c.if-back.true c.unsteps.ensures
 
-returns-2 : tie.Need-returns-2
+returns-2 : tie.Need-returns
 unfolding turned
-returns-2 c = rw c.before.if1.false c.steps.ensures
+returns-2 c = rw c.if-back.false c.steps.ensures
 
-pub turned-small-spec : {M : Type 1} → statement M
-turned-small-spec = tie.close (tie.spec (λ c κs. search rules) returns (λ c κs. search rules) returns-2)
+pub turned_small_spec : {M : Type 1} → statement M
+turned_small_spec = tie.close (tie.spec (λ c κs. search rules) returns (λ c κs. search rules) returns-2)

@@ -26,10 +26,10 @@ put-more {j = j} {block} put below =
       ahead = λ k after. get_or-set_other block j k _ 0 (λ (same : k ≡ j). omega arith) ∙ put.ahead k (omega arith);
     }
 
-abbrev invariant-loop : tie.invariant-loop
+abbrev invariant-loop : tie.invariant-loop-j
 invariant-loop bytes at block₀ count j₀ block j = (j ≤ count) × Put bytes at (length block₀) j block
 
-abbrev decreases-loop : tie.decreases-loop
+abbrev decreases-loop : tie.decreases-loop-j
 decreases-loop bytes at block₀ count j₀ block j = count - j
 
 put_all : (bytes : List ℕ) (at size count j : ℕ) (block : List ℕ) → count ≡ min (length bytes - at) size → at ≤ length bytes → count ≤ j
@@ -42,23 +42,20 @@ put_all bytes at size count j block e within done put = table_of 0 size _ block 
       | no past ↦ put.ahead k (omega arith) ∙ sym (get_or-eq_default bytes 0 {n = at + k} (omega arith))
     ]
 
-loop-holds : tie.Need-loop-init invariant-loop decreases-loop
-loop-holds c = (zero-le, record { passed = filled_none refl; ahead = λ k _. zero_at _ c.before.before.before.requires.1 k })
+loop-holds : tie.Need-loop-j-init invariant-loop decreases-loop
+loop-holds c = (zero-le, record { passed = filled_none refl; ahead = λ k _. zero_at _ c.requires.1 k })
 
-loop-again : tie.Need-loop-preserved invariant-loop decreases-loop
+loop-again : tie.Need-loop-j-preserved invariant-loop decreases-loop
 loop-again c =
-    let inv = c.before.before.loop.invariant in
-    (search rules, put-more inv.1 (omega (arith, c.before.before.before.smaller.ensures)))
+    let inv = c.loop-j.invariant in
+    (search rules, put-more inv.1 (omega (arith, c.smaller-count.ensures)))
 
 returns : tie.Need-returns invariant-loop decreases-loop
 returns c =
-    let inv = c.before.loop.invariant in
-    let counted = c.before.before in
-    let s = counted.before.before.before in
-    put_all s.args.bytes.now s.args.at _ _ _ _ counted.smaller.ensures s.requires.0 (omega arith) inv.1
+    let inv = c.loop-j.invariant in
+    put_all c.args.bytes.now c.args.at _ _ _ _ c.smaller-count.ensures c.requires.0 (omega arith) inv.1
 
 pub fill_spec : {M : Type 1} → statement M
 fill_spec =
     tie.close
-    (tie.spec invariant-loop decreases-loop (λ c. search rules) (λ c κs. search rules) loop-holds (λ c. search rules) (λ c. search rules)
-    (λ c. search rules) (λ c. search rules) (λ c. search rules) loop-again (λ c. c.before.loop.invariant.1.passed.size) returns)
+    (tie.spec invariant-loop decreases-loop (λ c. search rules) (λ c κs. search rules) loop-holds (λ c. search rules) (λ c. search rules) (λ c. search rules) (λ c. search rules) (λ c. search rules) loop-again (λ c. c.before.loop-j.invariant.1.passed.size) returns)

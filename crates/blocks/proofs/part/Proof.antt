@@ -9,9 +9,9 @@ use Rattle.blocks.proofs.part.Tie as tie
 
 returns : tie.Need-returns
 returns c =
-    let p = c.before.args in
+    let p = c.args in
     let size : p.at + p.size - p.at ≡ p.size = omega arith in
     (ap (λ (n : ℕ). take n (drop p.at p.bytes.now)) size, simp (length-take, length-drop) (omega arith))
 
-pub part-spec : {M : Type 1} → statement M
-part-spec = tie.close (tie.spec (λ c. search rules) (λ c. search rules) (λ c. search rules) (λ c. search rules) returns)
+pub part_spec : {M : Type 1} → statement M
+part_spec = tie.close (tie.spec (λ c. search rules) (λ c. search rules) (λ c. search rules) (λ c. search rules) returns)

@@ -11,22 +11,20 @@ use Rattle.commands.proofs.Steps.{none_open, full_fed}
 use Rattle.commands.proofs.full.Statement.{statement}
 use Rattle.commands.proofs.full.Tie as tie
 
-returns : tie.Need-returns
+returns : tie.Need-returns-then-hash-eq0
 unfolding effect
 returns c =
-    let a = c.before.before.before.args in
-    none_open a.tape.now (Full a.place) a.hash c.if1.true refl
+    let a = c.args in
+    none_open a.tape.now (Full a.place) a.hash c.if-hash-eq0.true refl
 
-returns-2 : tie.Need-returns-2
+returns-2 : tie.Need-returns
 returns-2 c =
-    let s = c.before.before.before.before.before.before in
-    let a = s.args in
+    let a = c.args in
     let size = add-sub_cancel_left a.place 32 in
-    full_fed a.tape.now a.place a.hash c.before.before.before.if1.false c.before.feed.result s.requires
-    (c.before.feed.ensures ∙ ap (λ (k : ℕ). feed_answer a.hash (take k (drop a.place a.tape.now)) 256) size)
+    full_fed a.tape.now a.place a.hash c.if-hash-eq0.false c.feed-fed.result c.requires
+    (c.feed-fed.ensures ∙ ap (λ (k : ℕ). feed_answer a.hash (take k (drop a.place a.tape.now)) 256) size)
 
-pub full-spec : {M : Type 1} → statement M
-full-spec =
+pub full_spec : {M : Type 1} → statement M
+full_spec =
     tie.close
-    (tie.spec returns (λ c. search rules) (λ c. search rules) (λ c. search rules) (λ c. search rules) (λ c κs. search rules)
-    returns-2)
+    (tie.spec returns (λ c. search rules) (λ c. search rules) (λ c. search rules) (λ c. search rules) (λ c κs. search rules) returns-2)

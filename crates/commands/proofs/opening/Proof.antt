@@ -4,13 +4,13 @@ use Rattle.commands.proofs.Steps.{open_busy, open_new}
 use Rattle.commands.proofs.opening.Statement.{statement}
 use Rattle.commands.proofs.opening.Tie as tie
 
-returns : tie.Need-returns
-returns c = open_busy c.before.before.args.width c.before.before.args.hash c.if1.true
+returns : tie.Need-returns-then-hash-ne0
+returns c = open_busy c.args.width c.args.hash c.if-hash-ne0.true
 
-returns-2 : tie.Need-returns-2
+returns-2 : tie.Need-returns
 returns-2 c =
-    let a = c.before.before.before.before.args in
-    open_new a.width a.hash c.before.«open».result c.before.before.if1.false c.before.«open».ensures
+    let a = c.args in
+    open_new a.width a.hash c.open-opened.result c.if-hash-ne0.false c.open-opened.ensures
 
-pub opening-spec : {M : Type 1} → statement M
-opening-spec = tie.close (tie.spec returns (λ c κs. search rules) returns-2)
+pub opening_spec : {M : Type 1} → statement M
+opening_spec = tie.close (tie.spec returns (λ c κs. search rules) returns-2)

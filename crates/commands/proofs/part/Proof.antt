@@ -11,22 +11,20 @@ use Rattle.commands.proofs.Steps.{none_open, part_fed}
 use Rattle.commands.proofs.part.Statement.{statement}
 use Rattle.commands.proofs.part.Tie as tie
 
-returns : tie.Need-returns
+returns : tie.Need-returns-then-hash-eq0
 unfolding effect
 returns c =
-    let a = c.before.before.before.args in
-    none_open a.tape.now (Part a.count a.place) a.hash c.if1.true refl
+    let a = c.args in
+    none_open a.tape.now (Part a.count a.place) a.hash c.if-hash-eq0.true refl
 
-returns-2 : tie.Need-returns-2
+returns-2 : tie.Need-returns
 returns-2 c =
-    let s = c.before.before.before.before.before.before in
-    let a = s.args in
-    part_fed a.tape.now a.place a.hash c.before.before.before.if1.false a.count c.before.feed.result s.requires (search rules)
-    (c.before.feed.ensures
+    let a = c.args in
+    part_fed a.tape.now a.place a.hash c.if-hash-eq0.false a.count c.feed-fed.result c.requires (search rules)
+    (c.feed-fed.ensures
     ∙ ap (λ (k : ℕ). feed_answer a.hash (take k (drop a.place a.tape.now)) a.count) (add-sub_cancel_left a.place 32))
 
-pub part-spec : {M : Type 1} → statement M
-part-spec =
+pub part_spec : {M : Type 1} → statement M
+part_spec =
     tie.close
-    (tie.spec returns (λ c. search rules) (λ c. search rules) (λ c. search rules) (λ c. search rules) (λ c κs. search rules)
-    returns-2)
+    (tie.spec returns (λ c. search rules) (λ c. search rules) (λ c. search rules) (λ c. search rules) (λ c κs. search rules) returns-2)

@@ -6,12 +6,12 @@ use Rattle.commands.proofs.Steps.{none_open, take_open}
 use Rattle.commands.proofs.taking.Statement.{statement}
 use Rattle.commands.proofs.taking.Tie as tie
 
-returns : tie.Need-returns
+returns : tie.Need-returns-then-hash-eq0
 unfolding effect
-returns c = λ tape. none_open tape Take c.before.before.args.hash c.if1.true refl
+returns c = λ tape. none_open tape Take c.args.hash c.if-hash-eq0.true refl
 
-returns-2 : tie.Need-returns-2
-returns-2 c = take_open c.before.before.args.hash c.if1.false
+returns-2 : tie.Need-returns
+returns-2 c = take_open c.args.hash c.if-hash-eq0.false
 
-pub taking-spec : {M : Type 1} → statement M
-taking-spec = tie.close (tie.spec returns returns-2)
+pub taking_spec : {M : Type 1} → statement M
+taking_spec = tie.close (tie.spec returns returns-2)

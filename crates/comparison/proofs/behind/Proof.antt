@@ -5,7 +5,7 @@ use Rattle.comparison.proofs.behind.Statement.{statement}
 use Rattle.comparison.proofs.behind.Tie as tie
 
 returns : tie.Need-returns
-returns c = let p = c.before.args in back p.at p.bytes.now
+returns c = let p = c.args in back p.at p.bytes.now
 
-pub behind-spec : {M : Type 1} → statement M
-behind-spec = tie.close (tie.spec (λ c. search rules) (λ c. search rules) (λ c. search rules) returns)
+pub behind_spec : {M : Type 1} → statement M
+behind_spec = tie.close (tie.spec (λ c. search rules) (λ c. search rules) (λ c. search rules) returns)

@@ -9,36 +9,33 @@ use Rattle.comparison.proofs.compare.Statement.{statement}
 use Rattle.comparison.proofs.compare.Tie as tie
 
 -- The width is one of the four.
-known : (c : tie.Else1) → is_width c.before.before.before.before.args.width ≡ true
-known c = sym c.before.is-width.ensures ∙ not-false _ c.if1.false
+known : (c : tie.Else-not-is_width) → is_width c.args.width ≡ true
+known c = sym c.is_width.ensures ∙ c.if-not-is_width.false
 
-returns : tie.Need-returns
-returns c = answer_width _ _ _ _ _ (sym c.before.is-width.ensures ∙ not-true _ c.if1.true)
+returns : tie.Need-returns-then-not-is_width
+returns c = answer_width _ _ _ _ _ (sym c.is_width.ensures ∙ c.if-not-is_width.true)
 
-returns-2 : tie.Need-returns-2
-returns-2 c = answer_first _ _ _ _ _ (known c.before.before) _ c.before.piece-refusal.ensures c.if2.true
+returns-2 : tie.Need-returns-then-first-ne0
+returns-2 c = answer_first _ _ _ _ _ (known c.before.before) _ c.piece_refusal-first.ensures c.if-first-ne0.true
 
-returns-3 : tie.Need-returns-3
+returns-3 : tie.Need-returns-then-second-ne0
 returns-3 c =
-    let second = c.before.before in
-    answer_second _ _ _ _ _ (known second.before.before) _ (sym second.before.piece-refusal.ensures ∙ second.if2.false)
-    c.before.piece-refusal2.ensures c.if3.true
+    answer_second _ _ _ _ _ (known c.before.before.before.before) _ (sym c.piece_refusal-first.ensures ∙ c.if-first-ne0.false)
+    c.piece_refusal-second.ensures c.if-second-ne0.true
 
-compare-accepted-requires : tie.Need-compare-accepted-requires
-compare-accepted-requires c κs =
-    let second = c.before.before in
-    let first = second.before in (
-      known first.before,
-      sym first.piece-refusal.ensures ∙ second.if2.false,
-      sym c.before.piece-refusal2.ensures ∙ c.if3.false,
-    )
+compare-accepted-requires : tie.Need-compare_accepted-requires
+compare-accepted-requires c κs = (
+  known c.before.before.before.before,
+  sym c.piece_refusal-first.ensures ∙ c.if-first-ne0.false,
+  sym c.piece_refusal-second.ensures ∙ c.if-second-ne0.false,
+)
 
-returns-4 : tie.Need-returns-4
+returns-4 : tie.Need-returns
 returns-4 c =
-    let rules = compare-accepted-requires c.before c.compare-accepted.lifetimes in
-    c.compare-accepted.ensures ∙ answer_found _ _ _ _ _ rules.0 rules.1 rules.2
+    let rules = compare-accepted-requires c.before c.compare_accepted.lifetimes in
+    c.compare_accepted.ensures ∙ answer_found _ _ _ _ _ rules.0 rules.1 rules.2
 
-pub compare-spec : {M : Type 1} → statement M
-compare-spec =
+pub compare_spec : {M : Type 1} → statement M
+compare_spec =
     tie.close
     (tie.spec (λ c κs. search rules) returns (λ c κs. search rules) returns-2 (λ c κs. search rules) returns-3 compare-accepted-requires returns-4)

@@ -6,46 +6,29 @@ use Rattle.comparison.proofs.BitLaws.{bytes_other, bytes_all, last_decides}
 use Rattle.comparison.proofs.same_bits.Statement.{statement}
 use Rattle.comparison.proofs.same_bits.Tie as tie
 
-abbrev known : tie.After-same-bytes → tie.After-shared-slice-known2
-known c = c.before.before.before
-
-abbrev begin : tie.After-same-bytes → tie.Start
-begin c = (known c).before.before
-
-returns : tie.Need-returns
+returns : tie.Need-returns-then-not-same_bytes
 returns c =
-    let tested = c.before in
-    let k = known tested in
-    let s = begin tested in
-    bytes_other _ _ _ (λ j. (k.before.shared-slice-known.given j).fits) (λ j. (k.shared-slice-known2.given j).fits) s.pre.0 s.pre.1
-    tested.before.before.part.ensures.0 tested.before.part2.ensures.0 tested.same_bytes.ensures (not-true _ c.if1.true)
+    bytes_other _ _ _ (λ j. (c.shared_slice_known-1.given j).fits) (λ j. (c.shared_slice_known-2-1.given j).fits) c.requires.0 c.requires.1
+    c.part.ensures.0 c.part-2.ensures.0 c.same_bytes.ensures (c.if-not-same_bytes.true)
 
-returns-2 : tie.Need-returns-2
+returns-2 : tie.Need-returns-then-count-eq0
 returns-2 c =
-    let tested = c.before.before in
-    let k = known tested in
-    let s = begin tested in
-    bytes_all _ _ _ (λ j. (k.before.shared-slice-known.given j).fits) (λ j. (k.shared-slice-known2.given j).fits) s.pre.0 s.pre.1
-    tested.before.before.part.ensures.0 tested.before.part2.ensures.0 tested.same_bytes.ensures (not-false _ c.before.if1.false)
-    c.if2.true
+    bytes_all _ _ _ (λ j. (c.shared_slice_known-1.given j).fits) (λ j. (c.shared_slice_known-2-1.given j).fits) c.requires.0 c.requires.1
+    c.part.ensures.0 c.part-2.ensures.0 c.same_bytes.ensures (c.if-not-same_bytes.false)
+    c.if-count-eq0.true
 
-shared-slice-read-result : tie.Need-shared-slice-read-result
-shared-slice-read-result c = omega (arith, c.before.if2.false, (begin c.before.before.before).requires)
+shared-slice-read-result : tie.Need-bounds-x-whole
+shared-slice-read-result c = omega (arith, c.if-count-eq0.false, c.requires)
 
-shared-slice-read-result-2 : tie.Need-shared-slice-read-result-2
-shared-slice-read-result-2 c = omega (arith, c.before.before.if2.false, (begin c.before.before.before.before).requires)
+shared-slice-read-result-2 : tie.Need-bounds-y-whole
+shared-slice-read-result-2 c = omega (arith, c.if-count-eq0.false, c.requires)
 
-returns-3 : tie.Need-returns-3
+returns-3 : tie.Need-returns
 returns-3 c =
-    let left = c.before.before.before in
-    let tested = left.before in
-    let k = known tested in
-    let s = begin tested in
-    last_decides _ _ _ (λ j. (k.before.shared-slice-known.given j).fits) (λ j. (k.shared-slice-known2.given j).fits) s.pre.0 s.pre.1
-    tested.before.before.part.ensures.0 tested.before.part2.ensures.0 tested.same_bytes.ensures (not-false _ left.if1.false)
+    last_decides _ _ _ (λ j. (c.shared_slice_known-1.given j).fits) (λ j. (c.shared_slice_known-2-1.given j).fits) c.requires.0 c.requires.1
+    c.part.ensures.0 c.part-2.ensures.0 c.same_bytes.ensures (c.if-not-same_bytes.false)
 
-pub same-bits-spec : {M : Type 1} → statement M
-same-bits-spec =
+pub same_bits_spec : {M : Type 1} → statement M
+same_bits_spec =
     tie.close
-    (tie.spec (λ c κs. search rules) (λ c κs. search rules) (λ c κs. search rules) returns returns-2 (λ c. search rules) shared-slice-read-result
-    (λ c. search rules) (λ c. search rules) shared-slice-read-result-2 (λ c. search rules) (λ c. search rules) returns-3)
+    (tie.spec (λ c κs. search rules) (λ c κs. search rules) (λ c κs. search rules) returns returns-2 (λ c. search rules) shared-slice-read-result (λ c. search rules) (λ c. search rules) shared-slice-read-result-2 (λ c. search rules) (λ c. search rules) returns-3)

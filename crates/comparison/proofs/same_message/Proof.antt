@@ -9,44 +9,36 @@ use Rattle.comparison.proofs.SharedLaws.{bits_behind, rest_decides}
 use Rattle.comparison.proofs.same_message.Statement.{statement}
 use Rattle.comparison.proofs.same_message.Tie as tie
 
-abbrev begin : tie.Then1 → tie.Start
-begin c = c.before.before.before
-
 behind-requires : tie.Need-behind-requires
-behind-requires c κs = let pre = (begin c).requires in omega (arith, pre.0, pre.2.first)
+behind-requires c κs = let pre = c.requires in omega (arith, pre.0, pre.2.first)
 
-behind-requires-2 : tie.Need-behind-requires-2
-behind-requires-2 c κs = let pre = (begin c.before).requires in omega (arith, pre.1, pre.2.second)
+behind-requires-2 : tie.Need-behind-requires-then-m-n
+behind-requires-2 c κs = let pre = c.requires in omega (arith, pre.1, pre.2.second)
 
-mul-same-bits : tie.Need-overflow-mul-same-bits
-mul-same-bits c = record { fits = omega (arith, (begin c.before.before).requires.2.first) }
+mul-same-bits : tie.Need-overflow_mul-at
+mul-same-bits c = record { fits = omega (arith, c.requires.2.first) }
 
-sub-same-bits : tie.Need-overflow-sub-same-bits
-sub-same-bits c = omega (arith, (begin c.before.before).requires.2.first)
+sub-same-bits : tie.Need-overflow_sub-m
+sub-same-bits c = omega (arith, c.requires.2.first)
 
-same-bits-requires : tie.Need-same-bits-requires
+same-bits-requires : tie.Need-same_bits-requires
 same-bits-requires c κs =
-    let test = c.before.before in
-    let s = begin test in
-    let p = s.args in (
-      bits_behind p.x.now p.m p.at s.pre.0 c.before.behind.ensures,
-      bits_behind p.y.now p.m p.at (omega (arith, s.pre.1, test.if1.true)) c.behind2.ensures,
+    let p = c.args in (
+      bits_behind p.x.now p.m p.at c.requires.0 c.behind.ensures,
+      bits_behind p.y.now p.m p.at (omega (arith, c.requires.1, c.if-m-n.true)) c.behind-then-m-n.ensures,
     )
 
-returns : tie.Need-returns
+returns : tie.Need-returns-then-m-n
 returns c =
-    let second = c.before in
-    let test = second.before.before in
-    let s = begin test in
-    rest_decides (family_of s.args.width) s.pre.0 s.pre.1 test.if1.true s.pre.2 second.before.behind.ensures
-    second.behind2.ensures c.same-bits.ensures
+    rest_decides (family_of c.args.width) c.requires.0 c.requires.1 c.if-m-n.true c.requires.2 c.behind.ensures
+    c.behind-then-m-n.ensures c.same_bits.ensures
 
-returns-2 : tie.Need-returns-2
+returns-2 : tie.Need-returns
 returns-2 c =
-    let pre = c.before.before.before.requires in
-    sym (not_equal _ _ (λ e. c.if1.false (sym (length_message _ _ pre.0) ∙ ap length e ∙ length_message _ _ pre.1)))
+    let pre = c.requires in
+    sym (not_equal _ _ (λ e. c.if-m-n.false (sym (length_message _ _ pre.0) ∙ ap length e ∙ length_message _ _ pre.1)))
 
-pub same-message-spec : {M : Type 1} → statement M
-same-message-spec =
+pub same_message_spec : {M : Type 1} → statement M
+same_message_spec =
     tie.close
     (tie.spec behind-requires behind-requires-2 mul-same-bits sub-same-bits same-bits-requires returns returns-2)

@@ -8,5 +8,5 @@ returns : tie.Need-returns
 unfolding start224
 returns c = refl
 
-pub start-224-spec : {M : Type 1} → statement M
-start-224-spec = tie.close (tie.spec returns)
+pub start_224_spec : {M : Type 1} → statement M
+start_224_spec = tie.close (tie.spec returns)

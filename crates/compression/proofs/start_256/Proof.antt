@@ -8,5 +8,5 @@ returns : tie.Need-returns
 unfolding start256
 returns c = refl
 
-pub start-256-spec : {M : Type 1} → statement M
-start-256-spec = tie.close (tie.spec returns)
+pub start_256_spec : {M : Type 1} → statement M
+start_256_spec = tie.close (tie.spec returns)

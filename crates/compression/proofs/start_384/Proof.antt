@@ -8,5 +8,5 @@ returns : tie.Need-returns
 unfolding start384
 returns c = refl
 
-pub start-384-spec : {M : Type 1} → statement M
-start-384-spec = tie.close (tie.spec returns)
+pub start_384_spec : {M : Type 1} → statement M
+start_384_spec = tie.close (tie.spec returns)

@@ -8,5 +8,5 @@ returns : tie.Need-returns
 unfolding start512
 returns c = refl
 
-pub start-512-spec : {M : Type 1} → statement M
-start-512-spec = tie.close (tie.spec returns)
+pub start_512_spec : {M : Type 1} → statement M
+start_512_spec = tie.close (tie.spec returns)

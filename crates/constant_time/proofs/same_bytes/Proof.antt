@@ -5,10 +5,10 @@ use Rattle.pairs.proofs.ListLaws.{unequal_lengths}
 use Rattle.constant_time.proofs.same_bytes.Statement.{statement}
 use Rattle.constant_time.proofs.same_bytes.Tie as tie
 
-returns : tie.Need-returns
+returns : tie.Need-returns-then-x-y
 returns c =
-    let a = c.before.before.before.args in
-    sym (unequal_lengths a.x.now a.y.now c.if1.true)
+    let a = c.args in
+    sym (unequal_lengths a.x.now a.y.now c.if-x-y.true)
 
-pub same-bytes-spec : {M : Type 1} → statement M
-same-bytes-spec = tie.close (tie.spec returns (λ c κs. search rules) (λ c. search rules))
+pub same_bytes_spec : {M : Type 1} → statement M
+same_bytes_spec = tie.close (tie.spec returns (λ c κs. search rules) (λ c. search rules))

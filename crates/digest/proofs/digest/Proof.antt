@@ -16,38 +16,31 @@ use Rattle.digest.proofs.digest.Statement.{statement}
 use Rattle.digest.proofs.digest.Tie as tie
 
 -- The place where the call is accepted, from there the start, and from the place after the length block that one.
-abbrev start : tie.Else1 → tie.Start
-start c = c.before.before.before.before
-
-abbrev accepted-before : tie.After-conclude → tie.Else1
-accepted-before c = c.before.before.before
-
-good : (c : tie.Else1) → let a = (start c).args in Accepted a.width a.message.now a.count (length a.out.now)
+good : (c : tie.Else-refused-ne0) → let a = c.args in Accepted a.width a.message.now a.count (length a.out.now)
 good c =
-    let a = (start c).args in
-    let refused = c.before.refusal in
-    accepted a.width a.message.now a.count (length a.out.now) refused.result refused.ensures c.if1.false
+    let a = c.args in
+    let refused = c.refusal-refused in
+    accepted a.width a.message.now a.count (length a.out.now) refused.result refused.ensures c.if-refused-ne0.false
 
-returns : tie.Need-returns
+returns : tie.Need-returns-then-refused-ne0
 returns c =
-    let refused = c.before.refusal in
-    (refused.ensures, sym (written_refused _ _ c.before.before.before.before.args.out.now (λ e. c.if1.true (refused.ensures ∙ e))))
+    let refused = c.refusal-refused in
+    (refused.ensures, sym (written_refused _ _ c.args.out.now (λ e. c.if-refused-ne0.true (refused.ensures ∙ e))))
 
 conclude-requires : tie.Need-conclude-requires
 conclude-requires c κs = (search rules, omega (arith, (good c.before.before).whole.within))
 
-part-write-words-end : tie.Need-slice-bounds-write-words-end
-part-write-words-end c = omega (arith, (good (accepted-before c.before)).enough, c.digest-bytes.ensures)
+part-write-words-end : tie.Need-slice_bounds-write_words-end
+part-write-words-end c = omega (arith, (good c.before.before.before.before).enough, c.digest_bytes-length.ensures)
 
-write-words-requires : tie.Need-write-words-requires
+write-words-requires : tie.Need-write_words-requires
 write-words-requires c κs =
-    let e = accepted-before c.before.before in
-    let a = (start e).args in
-    let d = c.before.digest-bytes in
-    let known = (good e).known in
+    let a = c.args in
+    let d = c.digest_bytes-length in
+    let known = (good c.before.before.before.before.before).known in
     omega (
       arith,
-      (good e).enough,
+      (good c.before.before.before.before.before).enough,
       length-take (d.result - 0) a.out.now,
       d.ensures,
       digest_room a.width known,
@@ -55,24 +48,20 @@ write-words-requires c κs =
       words_within (family_of a.width),
     )
 
-returns-2 : tie.Need-returns-2
+returns-2 : tie.Need-returns
 returns-2 c =
-    let w = c.before.before.write-words in
-    let d = c.before.before.before.before in
-    let l = d.before in
-    let e = accepted-before l in
-    let a = (start e).args in
-    let begun = l.before.before.start-state in
-    let none = sym e.if1.left ∙ e.before.refusal.ensures in (
+    let w = c.write_words in
+    let a = c.args in
+    let begun = c.start_state-state in
+    let none = sym c.if-refused-ne0.false ∙ c.refusal-refused.ensures in (
       none,
-      digest_written a.width a.message.now a.count (length a.out.now) (good e) d.digest-bytes.result
-          d.digest-bytes.ensures a.out.now begun.result l.conclude.new.1.0 w.new.0 refl begun.ensures l.conclude.ensures
+      digest_written a.width a.message.now a.count (length a.out.now) (good c.before.before.before.before.before.before.before.before) c.digest_bytes-length.result
+          c.digest_bytes-length.ensures a.out.now begun.result c.conclude.new.state w.new.out refl begun.ensures c.conclude.ensures
           w.ensures
           ∙ ap (λ (r : ℕ). written r (digest a.width (message a.message.now a.count)) a.out.now) none,
     )
 
-pub digest-spec : {M : Type 1} → statement M
-digest-spec =
+pub digest_spec : {M : Type 1} → statement M
+digest_spec =
     tie.close
-    (tie.spec (λ c κs. search rules) returns (λ c κs. search rules) conclude-requires (λ c κs. search rules) (λ c. search rules) (λ c. search rules)
-    part-write-words-end write-words-requires (λ c. search rules) returns-2)
+    (tie.spec (λ c κs. search rules) returns (λ c κs. search rules) conclude-requires (λ c κs. search rules) (λ c. search rules) (λ c. search rules) part-write-words-end write-words-requires (λ c. search rules) returns-2)

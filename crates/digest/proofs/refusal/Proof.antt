@@ -9,38 +9,32 @@ use Rattle.digest.proofs.Whole.{unknown_width, message_refused, room_short, room
 use Rattle.digest.proofs.refusal.Statement.{statement}
 use Rattle.digest.proofs.refusal.Tie as tie
 
-abbrev start : tie.Else1 → tie.Start
-start c = c.before.before.before
+known : (c : tie.Else-not-is_width) → is_width c.args.width ≡ true
+known c = let test = c.is_width in sym test.ensures ∙ c.if-not-is_width.false
 
-known : (c : tie.Else1) → is_width (start c).args.width ≡ true
-known c = let test = c.before.is-width in sym test.ensures ∙ not-false test.result c.if1.false
-
-returns : tie.Need-returns
+returns : tie.Need-returns-then-not-is_width
 returns c =
-    let a = c.before.before.before.args in
-    let test = c.before.is-width in
-    unknown_width a.width a.message.now a.count a.room (sym test.ensures ∙ not-true test.result c.if1.true)
+    let a = c.args in
+    let test = c.is_width in
+    unknown_width a.width a.message.now a.count a.room (sym test.ensures ∙ c.if-not-is_width.true)
 
-returns-2 : tie.Need-returns-2
+returns-2 : tie.Need-returns-then-refused-ne0
 returns-2 c =
-    let e = c.before.before in
-    let a = (start e).args in
-    let piece = c.before.piece-refusal in
-    message_refused a.width a.message.now a.count a.room (known e) piece.result piece.ensures c.if2.true
+    let a = c.args in
+    let piece = c.piece_refusal-refused in
+    message_refused a.width a.message.now a.count a.room (known c.before.before) piece.result piece.ensures c.if-refused-ne0.true
 
-returns-3 : tie.Need-returns-3
+returns-3 : tie.Need-returns-then-room-digest_bytes
 returns-3 c =
-    let p = c.before.before.before in
-    let a = (start p.before).args in
-    room_short a.width a.message.now a.count a.room (known p.before) p.piece-refusal.result p.piece-refusal.ensures
-    c.before.before.if2.false (omega (arith, c.if3.true, c.before.digest-bytes.ensures))
+    let a = c.args in
+    room_short a.width a.message.now a.count a.room (known c.before.before.before.before) c.piece_refusal-refused.result c.piece_refusal-refused.ensures
+    c.if-refused-ne0.false (omega (arith, c.if-room-digest_bytes.true, c.digest_bytes.ensures))
 
-returns-4 : tie.Need-returns-4
+returns-4 : tie.Need-returns
 returns-4 c =
-    let p = c.before.before.before in
-    let a = (start p.before).args in
-    room_enough a.width a.message.now a.count a.room (known p.before) p.piece-refusal.result p.piece-refusal.ensures
-    c.before.before.if2.false (omega (arith, c.if3.false, c.before.digest-bytes.ensures))
+    let a = c.args in
+    room_enough a.width a.message.now a.count a.room (known c.before.before.before.before) c.piece_refusal-refused.result c.piece_refusal-refused.ensures
+    c.if-refused-ne0.false (omega (arith, c.if-room-digest_bytes.false, c.digest_bytes.ensures))
 
-pub refusal-spec : {M : Type 1} → statement M
-refusal-spec = tie.close (tie.spec (λ c κs. search rules) returns (λ c κs. search rules) returns-2 (λ c κs. search rules) returns-3 returns-4)
+pub refusal_spec : {M : Type 1} → statement M
+refusal_spec = tie.close (tie.spec (λ c κs. search rules) returns (λ c κs. search rules) returns-2 (λ c κs. search rules) returns-3 returns-4)

@@ -6,17 +6,16 @@ use Rattle.expansion.proofs.Values.{as_values}
 use Rattle.expansion.proofs.expand_large.Statement.{statement}
 use Rattle.expansion.proofs.expand_large.Tie as tie
 
-matrix-requires : tie.Need-matrix-large-requires
+matrix-requires : tie.Need-matrix_large-requires
 matrix-requires c κs =
-    let a = c.before.before.before.before.before.args in
-    as_values 256 large a.last a.block.now c.before.before.large.ensures
+    let a = c.args in
+    as_values 256 large a.last a.block.now c.large.ensures
 
 returns : tie.Need-returns
 returns c =
-    let made = c.before.before.before.before in
-    let a = made.before.before.before.args in
-    expanded_of large a.last a.block.now made.large.ensures c.before.matrix-large.ensures c.permuted-large.ensures
+    let a = c.args in
+    expanded_of large a.last a.block.now c.large.ensures c.matrix_large.ensures c.permuted_large.ensures
 
-pub expand-large-spec : {M : Type 1} → statement M
-expand-large-spec =
+pub expand_large_spec : {M : Type 1} → statement M
+expand_large_spec =
     tie.close (tie.spec (λ c. search rules) (λ c κs. search rules) (λ c. search rules) matrix-requires (λ c κs. search rules) returns)

@@ -6,17 +6,16 @@ use Rattle.expansion.proofs.Values.{as_values}
 use Rattle.expansion.proofs.expand_small.Statement.{statement}
 use Rattle.expansion.proofs.expand_small.Tie as tie
 
-matrix-requires : tie.Need-matrix-small-requires
+matrix-requires : tie.Need-matrix_small-requires
 matrix-requires c κs =
-    let a = c.before.before.before.before.before.args in
-    as_values 128 small a.last a.block.now c.before.before.small.ensures
+    let a = c.args in
+    as_values 128 small a.last a.block.now c.small.ensures
 
 returns : tie.Need-returns
 returns c =
-    let made = c.before.before.before.before in
-    let a = made.before.before.before.args in
-    expanded_of small a.last a.block.now made.small.ensures c.before.matrix-small.ensures c.permuted-small.ensures
+    let a = c.args in
+    expanded_of small a.last a.block.now c.small.ensures c.matrix_small.ensures c.permuted_small.ensures
 
-pub expand-small-spec : {M : Type 1} → statement M
-expand-small-spec =
+pub expand_small_spec : {M : Type 1} → statement M
+expand_small_spec =
     tie.close (tie.spec (λ c. search rules) (λ c κs. search rules) (λ c. search rules) matrix-requires (λ c κs. search rules) returns)

@@ -6,22 +6,19 @@ use Rattle.form.proofs.Current.{state_read, at_least}
 use Rattle.form.proofs.form_state.Statement.{statement}
 use Rattle.form.proofs.form_state.Tie as tie
 
-head-of-requires : tie.Need-head-of-requires
+head-of-requires : tie.Need-head_of-head-requires
 head-of-requires c κs =
-    let s = c.before in
-    (omega (arith, s.requires.0, at_least s.args.form.now s.requires.2), s.requires.1)
+    (omega (arith, c.requires.0, at_least c.args.form.now c.requires.2), c.requires.1)
 
-read-words-requires : tie.Need-read-words-requires
+read-words-requires : tie.Need-read_words-requires
 read-words-requires c κs =
-    let s = c.before.before in
-    (omega arith, omega (arith, s.requires.0, c.head_of.ensures, at_least s.args.form.now s.requires.2))
+    (omega arith, omega (arith, c.requires.0, c.head_of-head.ensures, at_least c.args.form.now c.requires.2))
 
 returns : tie.Need-returns
 returns c =
-    let s = c.before.before.before in
-    let head = c.before.head_of in
+    let head = c.head_of-head in
     c.read_words.ensures
-    ∙ ap (padded 32) (state_read s.args.form.now s.args.size head.result s.requires.0 s.requires.2 head.ensures)
+    ∙ ap (padded 32) (state_read c.args.form.now c.args.size head.result c.requires.0 c.requires.2 head.ensures)
 
-pub form-state-spec : {M : Type 1} → statement M
-form-state-spec = tie.close (tie.spec head-of-requires read-words-requires returns)
+pub form_state_spec : {M : Type 1} → statement M
+form_state_spec = tie.close (tie.spec head-of-requires read-words-requires returns)

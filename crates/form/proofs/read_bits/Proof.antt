@@ -6,7 +6,7 @@ use Rattle.form.proofs.read_bits.Tie as tie
 
 returns : tie.Need-returns
 unfolding form_bits
-returns c = c.read-long.ensures
+returns c = c.read_long.ensures
 
-pub read-bits-spec : {M : Type 1} → statement M
-read-bits-spec = tie.close (tie.spec (search rules) returns)
+pub read_bits_spec : {M : Type 1} → statement M
+read_bits_spec = tie.close (tie.spec (search rules) returns)

@@ -6,11 +6,9 @@ use Rattle.form.proofs.read_width.Tie as tie
 
 returns : tie.Need-returns
 returns c =
-    let first = c.before.before in
-    read_two first.before.before.before.args.form.now first.wide.result c.wide2.result first.wide.ensures.0 c.wide2.ensures.0
+    read_two c.args.form.now c.wide.result c.wide-2.result c.wide.ensures.0 c.wide-2.ensures.0
 
-pub read-width-spec : {M : Type 1} → statement M
-read-width-spec =
+pub read_width_spec : {M : Type 1} → statement M
+read_width_spec =
     tie.close
-    (tie.spec (λ c. search rules) (λ c κs. search rules) (λ c. search rules) (λ c κs. search rules) (λ c. search rules)
-    (λ c. search rules) returns)
+    (tie.spec (λ c. search rules) (λ c κs. search rules) (λ c. search rules) (λ c κs. search rules) (λ c. search rules) (λ c. search rules) returns)

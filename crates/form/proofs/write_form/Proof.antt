@@ -5,26 +5,14 @@ use Rattle.form.proofs.write_form.Statement.{statement}
 use Rattle.form.proofs.write_form.Tie as tie
 
 -- The place after each part, from the one after the next.
-abbrev second : tie.After-write-bytes → tie.After-write-words
-second c = c.before.before.before.before
-
-abbrev first : tie.After-write-words → tie.After-write-head
-first c = c.before.before.before.before
-
 returns : tie.Need-returns
 returns c =
-    let d = c.before.before in
-    let t = second d in
-    let u = first t in
-    let s = u.before.before.before.before in
-    let a = s.args in
-    form_written a.width a.bits a.size a.state a.tail.now a.out.now s.pre.0 s.pre.1 s.good.1.1.0.1.0.1 s.pre.2
-    u.write-head.last.1.1.0 t.write-words.last.0 d.write_bytes.new.0
-    u.write-head.ensures t.write-words.ensures d.write_bytes.ensures
+    let a = c.args in
+    form_written a.width a.bits a.size a.state a.tail.now a.out.now c.requires.0 c.requires.1 c.well_formed.1.1.0.1.0.1 c.requires.2
+    c.write_head.new.out c.write_words.new.out c.write_bytes.new.out
+    c.write_head.ensures c.write_words.ensures c.write_bytes.ensures
 
-pub write-form-spec : {M : Type 1} → statement M
-write-form-spec =
+pub write_form_spec : {M : Type 1} → statement M
+write_form_spec =
     tie.close
-    (tie.spec (λ c. search rules) (λ c. search rules) (λ c. search rules) (λ c. search rules) (λ c. search rules)
-    (λ c κs. search rules) (λ c. search rules) (λ c. search rules) (λ c. search rules) (λ c κs. search rules) (λ c. search rules)
-    (λ c. search rules) (λ c. search rules) (λ c κs. search rules) (λ c. search rules) returns)
+    (tie.spec (λ c. search rules) (λ c. search rules) (λ c. search rules) (λ c. search rules) (λ c. search rules) (λ c κs. search rules) (λ c. search rules) (λ c. search rules) (λ c. search rules) (λ c κs. search rules) (λ c. search rules) (λ c. search rules) (λ c. search rules) (λ c κs. search rules) (λ c. search rules) returns)

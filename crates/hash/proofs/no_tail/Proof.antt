@@ -9,5 +9,5 @@ returns : tie.Need-returns
 unfolding table byte_of sum
 returns c = refl
 
-pub no-tail-spec : {M : Type 1} → statement M
-no-tail-spec = tie.close (tie.spec returns)
+pub no_tail_spec : {M : Type 1} → statement M
+no_tail_spec = tie.close (tie.spec returns)

@@ -7,27 +7,23 @@ use Rattle.hash.proofs.Refusing.{count_above, total_above, total_within}
 use Rattle.hash.proofs.piece_refusal.Statement.{statement}
 use Rattle.hash.proofs.piece_refusal.Tie as tie
 
-abbrev start : tie.After-bytes-of-bits → tie.Start
-start c = c.before.before
+within : (c : tie.Else-piece-bytes_of_bits) → c.args.count ≤ 8 * length c.args.piece.now
+within c = omega (arith, c.if-piece-bytes_of_bits.false, c.bytes_of_bits.ensures)
 
--- The piece has the bytes.
-within : (c : tie.Else1) → (start c.before).args.count ≤ 8 * length (start c.before).args.piece.now
-within c = omega (arith, c.if1.false, c.before.bytes-of-bits.ensures)
-
-returns : tie.Need-returns
+returns : tie.Need-returns-then-piece-bytes_of_bits
 returns c =
-    let a = (start c.before).args in
-    count_above a.bits a.piece.now a.count (omega (arith, c.if1.true, c.before.bytes-of-bits.ensures))
+    let a = c.args in
+    count_above a.bits a.piece.now a.count (omega (arith, c.if-piece-bytes_of_bits.true, c.bytes_of_bits.ensures))
 
-returns-2 : tie.Need-returns-2
+returns-2 : tie.Need-returns-then-bits-count
 returns-2 c =
-    let a = (start c.before.before).args in
-    total_above a.bits a.piece.now a.count (within c.before) (omega (arith, c.if2.true))
+    let a = c.args in
+    total_above a.bits a.piece.now a.count (within c.before) (omega (arith, c.if-bits-count.true))
 
-returns-3 : tie.Need-returns-3
+returns-3 : tie.Need-returns
 returns-3 c =
-    let a = (start c.before.before).args in
-    total_within a.bits a.piece.now a.count (within c.before) (omega (arith, c.if2.false))
+    let a = c.args in
+    total_within a.bits a.piece.now a.count (within c.before) (omega (arith, c.if-bits-count.false))
 
-pub piece-refusal-spec : {M : Type 1} → statement M
-piece-refusal-spec = tie.close (tie.spec (λ c κs. search rules) returns (λ c. omega arith) returns-2 returns-3)
+pub piece_refusal_spec : {M : Type 1} → statement M
+piece_refusal_spec = tie.close (tie.spec (λ c κs. search rules) returns (λ c. omega arith) returns-2 returns-3)

@@ -11,5 +11,5 @@ returns : tie.Need-returns
 unfolding holding padded table byte_of sum
 returns c = refl
 
-pub zero-hash-spec : {M : Type 1} → statement M
-zero-hash-spec = tie.close (tie.spec returns)
+pub zero_hash_spec : {M : Type 1} → statement M
+zero_hash_spec = tie.close (tie.spec returns)

@@ -6,18 +6,18 @@ use Rattle.hash_parts.proofs.Refusing.{size_above, size_below}
 use Rattle.hash_parts.proofs.is_form_size.Statement.{statement}
 use Rattle.hash_parts.proofs.is_form_size.Tie as tie
 
-returns : tie.Need-returns
+returns : tie.Need-returns-then-full-length
 returns c =
-    let full = c.before.form-bytes in
-    let a = c.before.before.args in
-    size_above (family_of a.width) a.length full.result full.ensures (omega (arith, c.if1.true))
+    let full = c.form_bytes-full in
+    let a = c.args in
+    size_above (family_of a.width) a.length full.result full.ensures (omega (arith, c.if-full-length.true))
 
-returns-2 : tie.Need-returns-2
+returns-2 : tie.Need-returns
 returns-2 c =
-    let full = c.before.before.form-bytes in
-    let a = c.before.before.before.args in
-    let old = c.old_form_bytes_lem in
-    size_below (family_of a.width) a.length full.result full.ensures old.result old.ensures (omega (arith, c.before.if1.false))
+    let full = c.form_bytes-full in
+    let a = c.args in
+    let old = c.old_form_bytes in
+    size_below (family_of a.width) a.length full.result full.ensures old.result old.ensures (omega (arith, c.if-full-length.false))
 
-pub is-form-size-spec : {M : Type 1} → statement M
-is-form-size-spec = tie.close (tie.spec (λ c κs. search rules) returns (λ c κs. search rules) returns-2)
+pub is_form_size_spec : {M : Type 1} → statement M
+is_form_size_spec = tie.close (tie.spec (λ c κs. search rules) returns (λ c κs. search rules) returns-2)

@@ -8,14 +8,14 @@ use Rattle.tail.proofs.Sizes.{bytes_within}
 use Rattle.hash_parts.proofs.with_head.Statement.{statement}
 use Rattle.hash_parts.proofs.with_head.Tie as tie
 
-mul-result : tie.Need-overflow-mul-result
-mul-result c = omega (arith, c.block_bytes_lem.ensures, bytes_within (family_of c.before.args.width))
+mul-result : tie.Need-overflow_mul-result
+mul-result c = omega (arith, c.block_bytes.ensures, bytes_within (family_of c.args.width))
 
-add-result : tie.Need-overflow-add-result
-add-result c = omega (arith, c.block_bytes_lem.ensures, bytes_within (family_of c.before.args.width))
+add-result : tie.Need-overflow_add-result
+add-result c = omega (arith, c.block_bytes.ensures, bytes_within (family_of c.args.width))
 
 returns : tie.Need-returns
-returns c = ap (λ (n : ℕ). c.before.args.head + 2 * n) c.block_bytes_lem.ensures
+returns c = ap (λ (n : ℕ). c.args.head + 2 * n) c.block_bytes.ensures
 
-pub with-head-spec : {M : Type 1} → statement M
-with-head-spec = tie.close (tie.spec (λ c κs. search rules) mul-result add-result returns)
+pub with_head_spec : {M : Type 1} → statement M
+with_head_spec = tie.close (tie.spec (λ c κs. search rules) mul-result add-result returns)

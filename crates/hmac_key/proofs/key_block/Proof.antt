@@ -7,30 +7,24 @@ use Rattle.hmac_key.proofs.KeyBlock.{short_key, hashed_key}
 use Rattle.hmac_key.proofs.key_block.Statement.{statement}
 use Rattle.hmac_key.proofs.key_block.Tie as tie
 
-abbrev start : tie.After-block-bytes → tie.Start
-start c = c.before.before
-
 fill-requires : tie.Need-fill-requires
 unfolding all_zero
 fill-requires c κs = (search rules, refl)
 
-mul-digest : tie.Need-overflow-mul-digest
-mul-digest c = omega (arith, (start c.before).requires.1)
+mul-digest : tie.Need-overflow_mul-key
+mul-digest c = omega (arith, c.requires.1)
 
-returns : tie.Need-returns
+returns : tie.Need-returns-then-key-block_bytes
 returns c =
-    let t = c.before.before.before in
-    let a = (start t.before).args in
-    short_key a.width a.key.now _ (omega (arith, t.if1.true, t.before.block_bytes_lem.ensures)) c.before.fill.ensures
+    let a = c.args in
+    short_key a.width a.key.now _ (omega (arith, c.if-key-block_bytes.true, c.block_bytes.ensures)) c.fill.ensures
 
-returns-2 : tie.Need-returns-2
+returns-2 : tie.Need-returns-else-key-block_bytes
 returns-2 c =
-    let e = c.before.before.before in
-    let s = start e.before in
-    hashed_key s.args.width s.pre.0 s.args.key.now s.pre.1 _ (omega (arith, e.if1.false, e.before.block_bytes_lem.ensures))
-    c.before.digest.ensures.1
+    hashed_key c.args.width c.requires.0 c.args.key.now c.requires.1 _ (omega (arith, c.if-key-block_bytes.false, c.block_bytes.ensures))
+    c.digest.ensures.1
 
-pub key-block-spec : {M : Type 1} → statement M
-key-block-spec =
+pub key_block_spec : {M : Type 1} → statement M
+key_block_spec =
     tie.close
     (tie.spec (λ c κs. search rules) (λ c. search rules) fill-requires mul-digest (λ c. search rules) (λ c κs. search rules) returns returns-2)

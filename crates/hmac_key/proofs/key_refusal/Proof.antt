@@ -7,23 +7,23 @@ use Rattle.hmac_key.proofs.KeyBlock.{unknown_width, long_key, key_accepted}
 use Rattle.hmac_key.proofs.key_refusal.Statement.{statement}
 use Rattle.hmac_key.proofs.key_refusal.Tie as tie
 
-returns : tie.Need-returns
+returns : tie.Need-returns-then-not-is_width
 returns c =
-    let a = c.before.before.args in
-    let test = c.before.is-width in
-    unknown_width a.width a.bytes (sym test.ensures ∙ not-true test.result c.if1.true)
+    let a = c.args in
+    let test = c.is_width in
+    unknown_width a.width a.bytes (sym test.ensures ∙ c.if-not-is_width.true)
 
-returns-2 : tie.Need-returns-2
+returns-2 : tie.Need-returns-then-bytes
 returns-2 c =
-    let a = c.before.before.before.args in
-    let test = c.before.before.is-width in
-    long_key a.width a.bytes (sym test.ensures ∙ not-false test.result c.before.if1.false) (omega (arith, c.if2.true))
+    let a = c.args in
+    let test = c.is_width in
+    long_key a.width a.bytes (sym test.ensures ∙ c.if-not-is_width.false) (omega (arith, c.if-bytes.true))
 
-returns-3 : tie.Need-returns-3
+returns-3 : tie.Need-returns
 returns-3 c =
-    let a = c.before.before.before.args in
-    let test = c.before.before.is-width in
-    key_accepted a.width a.bytes (sym test.ensures ∙ not-false test.result c.before.if1.false) (omega (arith, c.if2.false))
+    let a = c.args in
+    let test = c.is_width in
+    key_accepted a.width a.bytes (sym test.ensures ∙ c.if-not-is_width.false) (omega (arith, c.if-bytes.false))
 
-pub key-refusal-spec : {M : Type 1} → statement M
-key-refusal-spec = tie.close (tie.spec (λ c κs. search rules) returns returns-2 returns-3)
+pub key_refusal_spec : {M : Type 1} → statement M
+key_refusal_spec = tie.close (tie.spec (λ c κs. search rules) returns returns-2 returns-3)

@@ -6,7 +6,7 @@ use Rattle.hmac_parts.proofs.is_legal.Tie as tie
 
 returns : tie.Need-returns
 unfolding legal
-returns c = c.is-legal.ensures
+returns c = c.is_legal.ensures
 
-pub is-legal-spec : {M : Type 1} → statement M
-is-legal-spec = tie.close (tie.spec (λ c. search rules) (λ c. search rules) (λ c κs. search rules) returns)
+pub is_legal_spec : {M : Type 1} → statement M
+is_legal_spec = tie.close (tie.spec (λ c. search rules) (λ c. search rules) (λ c κs. search rules) returns)

@@ -12,9 +12,6 @@ use Rattle.hmac_parts.proofs.Finishing.{short, tag_front}
 use Rattle.hmac_parts.proofs.is_tag.Statement.{statement}
 use Rattle.hmac_parts.proofs.is_tag.Tie as tie
 
-abbrev start : tie.After-digest-bytes → tie.Start
-start c = c.before.before.before.before.before
-
 good : (s : tie.Start) → IsKeyed s.args.inner s.args.outer
 good s = keyed_facts s.args.inner s.args.outer s.requires
 
@@ -26,15 +23,12 @@ room s = (short s.args.inner.width (legal_width s.args.inner (good s).inner_lega
 
 returns : tie.Need-returns
 returns c =
-    let d = c.before.before.before in
-    let s = start d in
-    let a = s.args in
+    let a = c.args in
     c.same_bytes.ensures
     ∙ ap (equal a.given.now)
-    (tag_front a.inner a.outer (good s) (long s) d.digest-bytes.result d.digest-bytes.ensures d.before.before.finish.ensures.0)
+    (tag_front a.inner a.outer (good c.before.before.before.before.before.before.before) (long c.before.before.before.before.before.before.before) c.digest_bytes-length.result c.digest_bytes-length.ensures c.finish.ensures.0)
 
-pub is-tag-spec : {M : Type 1} → statement M
-is-tag-spec =
+pub is_tag_spec : {M : Type 1} → statement M
+is_tag_spec =
     tie.close
-    (tie.spec (λ c. search rules) (λ c κs. (c.before.before.requires, room c.before.before)) (λ c κs. search rules) (λ c. search rules) (λ c. search rules)
-    (λ c. omega (arith, c.before.digest-bytes.ensures, room (start c.before))) (λ c κs. search rules) returns)
+    (tie.spec (λ c. search rules) (λ c κs. (c.requires, room c.before.before)) (λ c κs. search rules) (λ c. search rules) (λ c. search rules) (λ c. omega (arith, c.digest_bytes-length.ensures, room c.before.before.before.before.before)) (λ c κs. search rules) returns)

@@ -10,10 +10,9 @@ use Rattle.hmac_parts.proofs.tag_refusal.Tie as tie
 
 returns : tie.Need-returns
 returns c =
-    let d = c.before in
-    let a = d.before.args in
-    c.output-refusal.ensures
-    ∙ ap (λ (n : ℕ). cond (keyed a.inner a.outer) (cond (leb n a.room) 0 6) 5) d.digest-bytes.ensures
+    let a = c.args in
+    c.output_refusal.ensures
+    ∙ ap (λ (n : ℕ). cond (keyed a.inner a.outer) (cond (leb n a.room) 0 6) 5) c.digest_bytes.ensures
 
-pub tag-refusal-spec : {M : Type 1} → statement M
-tag-refusal-spec = tie.close (tie.spec (λ c κs. search rules) (λ c κs. search rules) returns)
+pub tag_refusal_spec : {M : Type 1} → statement M
+tag_refusal_spec = tie.close (tie.spec (λ c κs. search rules) (λ c κs. search rules) returns)

@@ -13,45 +13,30 @@ use Rattle.checkpoints.specs.Index.{final_from}
 use Rattle.index.proofs.finish.Statement.{statement}
 use Rattle.index.proofs.finish.Tie as tie
 
--- The place after the run, from those after it; and the function's start.
-abbrev ran : tie.After-digest-bytes → tie.After-run-from
-ran c = c.before.before.before
-
-abbrev start : tie.After-run-from → tie.Start
-start c = c.before.before.before.before.before.before
-
-abbrev measured : tie.After-compressed → tie.After-digest-bytes
-measured c = c.before.before.before.before.before
-
-write-words-requires : tie.Need-write-words-requires
+write-words-requires : tie.Need-write_words-requires
 write-words-requires c κs =
-    let d = c.before in
-    let s = start (ran d) in
-    let width = s.args.width in
+    let width = c.args.width in
     omega (
       arith,
-      s.pre.5,
-      length-take (d.digest-bytes.result - 0) s.args.out.now,
-      d.digest-bytes.ensures,
-      digest_room width s.pre.0,
-      digest_words width s.pre.0,
+      c.requires.5,
+      length-take (c.digest_bytes-length.result - 0) c.args.out.now,
+      c.digest_bytes-length.ensures,
+      digest_room width c.requires.0,
+      digest_words width c.requires.0,
       words_within (family_of width),
     )
 
 returns : tie.Need-returns
 unfolding final_from
 returns c =
-    let d = measured c in
-    let r = ran d in
-    let s = start r in
-    let a = s.args in
+    let a = c.args in
     let f = family_of a.width in
     let final = final_from f (take (state_words f) a.from) (message a.message.now a.count) a.i in (
       c.compressed.ensures,
       (
-        r.run-from.ensures.1,
-        state_written a.width s.pre.0 final a.out.now (length_compression f _ _ _) s.pre.5 d.digest-bytes.ensures
-            r.run-from.ensures.0 c.before.before.before.write-words.ensures,
+        c.run_from.ensures.1,
+        state_written a.width c.requires.0 final a.out.now (length_compression f _ _ _) c.requires.5 c.digest_bytes-length.ensures
+            c.run_from.ensures.0 c.write_words.ensures,
       ),
     )
 

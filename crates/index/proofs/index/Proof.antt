@@ -25,107 +25,99 @@ use Rattle.index.proofs.Outputs.{parts_written, length_from, run_index, run_dige
 use Rattle.index.proofs.index.Statement.{statement}
 use Rattle.index.proofs.index.Tie as tie
 
--- The place where the call is accepted, from the one after the head; and the function's start.
-abbrev start : tie.Else1 → tie.Start
-start c = c.before.before.before.before.before
-
-abbrev passed : tie.After-write-head → tie.Else1
+-- The place where the call is accepted, from the one after the head.
+abbrev passed : tie.After-write_head → tie.Else-refused-ne0
 passed c = c.before.before.before.before
 
-good : (c : tie.Else1) → let a = (start c).args in Accepted a.width a.message.now a.count (length a.index.now) (length a.out.now)
+good : (c : tie.Else-refused-ne0) → let a = c.args in Accepted a.width a.message.now a.count (length a.index.now) (length a.out.now)
 good c =
-    let a = (start c).args in
-    accepted a.width a.message.now a.count (length a.index.now) (length a.out.now) c.before.index-refusal.ensures c.if1.false
+    let a = c.args in
+    accepted a.width a.message.now a.count (length a.index.now) (length a.out.now) c.index_refusal-refused.ensures c.if-refused-ne0.false
 
-returns : tie.Need-returns
+returns : tie.Need-returns-then-refused-ne0
 returns c =
-    let a = c.before.before.before.before.before.args in
-    nothing_written c.before.index-refusal.ensures c.if1.true _ a.index.now _ a.out.now _ a.blocks.now
+    let a = c.args in
+    nothing_written c.index_refusal-refused.ensures c.if-refused-ne0.true _ a.index.now _ a.out.now _ a.blocks.now
 
-part-write-head-end : tie.Need-slice-bounds-write-head-end
+part-write-head-end : tie.Need-slice_bounds-write_head-end
 part-write-head-end c = omega (arith, (good c.before.before).index_room)
 
 -- The head, and the index with it.
-module _ (c : tie.After-write-head) where
-  abbrev s : tie.Start
-  s = start (passed c)
-
+module _ (c : tie.After-write_head) where
   abbrev headed : List ℕ
-  headed = c.write-head.new.1.1.0
+  headed = c.write_head.new.out
 
   abbrev end : ℕ
-  end = c.before.before.index-bytes.result
+  end = c.index_bytes-end.result
 
   head-long : length headed ≡ head_bytes
-  head-long = ap length c.write-head.ensures ∙ length_head s.args.width s.args.count
+  head-long = ap length c.write_head.ensures ∙ length_head c.args.width c.args.count
 
-  index-long : length (put_mid 0 head_bytes s.args.index.now headed) ≡ length s.args.index.now
-  index-long = put_length 0 head_bytes s.args.index.now headed (omega arith) (omega (arith, (good (passed c)).index_room)) head-long
+  index-long : length (put_mid 0 head_bytes c.args.index.now headed) ≡ length c.args.index.now
+  index-long = put_length 0 head_bytes c.args.index.now headed (omega arith) (omega (arith, (good (passed c)).index_room)) head-long
 
-  room : end ≤ length (put_mid 0 head_bytes s.args.index.now headed)
-  room = omega (arith, index-long, (good (passed c)).index_room, c.before.before.index-bytes.ensures)
+  room : end ≤ length (put_mid 0 head_bytes c.args.index.now headed)
+  room = omega (arith, index-long, (good (passed c)).index_room, c.index_bytes-end.ensures)
 
-  begun : take (state_words (family_of s.args.width)) c.before.before.before.start-state.result ≡ starting s.args.width
+  begun : take (state_words (family_of c.args.width)) c.start_state-state.result ≡ starting c.args.width
   begun =
-      let f = family_of s.args.width in
-      ap (take (state_words f)) c.before.before.before.start-state.ensures
-      ∙ take_padded 32 (state_words f) (starting s.args.width) (start_length s.args.width (good (passed c)).known) (words_within f)
+      let f = family_of c.args.width in
+      ap (take (state_words f)) c.start_state-state.ensures
+      ∙ take_padded 32 (state_words f) (starting c.args.width) (start_length c.args.width (good (passed c)).known) (words_within f)
 
-  states-size : end - head_bytes ≡ block_bytes (family_of s.args.width) * (kept (family_of s.args.width) s.args.count - 0)
+  states-size : end - head_bytes ≡ block_bytes (family_of c.args.width) * (kept (family_of c.args.width) c.args.count - 0)
   states-size =
-      let f = family_of s.args.width in
-      let states : end - head_bytes ≡ block_bytes f * kept f s.args.count = omega (arith, c.before.before.index-bytes.ensures) in
-      states ∙ ap (λ (k : ℕ). block_bytes f * k) (sym (sub-zero (kept f s.args.count)))
+      let f = family_of c.args.width in
+      let states : end - head_bytes ≡ block_bytes f * kept f c.args.count = omega (arith, c.index_bytes-end.ensures) in
+      states ∙ ap (λ (k : ℕ). block_bytes f * k) (sym (sub-zero (kept f c.args.count)))
 
   states-long : {y : List ℕ}
-      → y ≡ states_from (family_of s.args.width) (take (state_words (family_of s.args.width)) c.before.before.before.start-state.result)
-      (message s.args.message.now s.args.count) 0
+      → y ≡ states_from (family_of c.args.width) (take (state_words (family_of c.args.width)) c.start_state-state.result)
+      (message c.args.message.now c.args.count) 0
       → length y ≡ end - head_bytes
   states-long wrote =
-      let f = family_of s.args.width in
-      let m = message s.args.message.now s.args.count in
-      let words = ap length begun ∙ start_length s.args.width (good (passed c)).known in
-      let size = length_message s.args.message.now s.args.count (good (passed c)).whole.within in
-      ap length wrote ∙ length_from f _ m s.args.count 0 words size ∙ sym states-size
+      let f = family_of c.args.width in
+      let m = message c.args.message.now c.args.count in
+      let words = ap length begun ∙ start_length c.args.width (good (passed c)).known in
+      let size = length_message c.args.message.now c.args.count (good (passed c)).whole.within in
+      ap length wrote ∙ length_from f _ m c.args.count 0 words size ∙ sym states-size
 
-part-finish-end : tie.Need-slice-bounds-finish-end
+part-finish-end : tie.Need-slice_bounds-finish-end
 part-finish-end c = omega (arith, room c.before.before)
 
 finish-requires : tie.Need-finish-requires
 finish-requires c κs =
     let h = c.before.before.before.before in
     let p = passed h in
-    let w = (start p).args.width in (
+    let w = c.args.width in (
       (good p).known,
-      refit (family_of w) h.before.before.before.start-state.result (starting w) (start_length w (good p).known)
-          h.before.before.before.start-state.ensures,
+      refit (family_of w) c.start_state-state.result (starting w) (start_length w (good p).known)
+          c.start_state-state.ensures,
       (good p).whole.within,
       omega arith,
-      mid_len head_bytes (end h) (put_mid 0 head_bytes (s h).args.index.now (headed h)) (room h) ∙ states-size h,
+      mid_len head_bytes (end h) (put_mid 0 head_bytes c.args.index.now (headed h)) (room h) ∙ states-size h,
       (good p).digest_room,
     )
 
-returns-2 : tie.Need-returns-2
+returns-2 : tie.Need-returns
 returns-2 c =
-    let d = c.before.before.before.before in
-    let h = d.before.before.before.before.before in
-    let p = passed h in
-    let g = good p in
-    let b = (s h).args in
-    let none = sym p.if1.left ∙ p.before.index-refusal.ensures in
+    let h = c.before.before.before.before.before.before.before.before.before in
+    let g = good (passed h) in
+    let b = c.args in
+    let none = sym c.if-refused-ne0.false ∙ c.index_refusal-refused.ensures in
     let m = message b.message.now b.count in
     let whole = length_message b.message.now b.count g.whole.within in
-    let states = d.finish.new.1.1.1.1.1.0 in
+    let states = c.finish.new.states in
     let index =
-    parts_written head_bytes (end h) b.index.now (headed h) states (head-long h) (states-long h d.finish.ensures.1.0)
-    (omega (arith, h.before.before.index-bytes.ensures)) (omega (arith, room h, index-long h))
-    ∙ ap (λ (l : List ℕ). written 0 l b.index.now) (run_index b.width m (begun h) whole h.write-head.ensures d.finish.ensures.1.0) in
-    let out = d.finish.ensures.1.1 ∙ ap (λ (l : List ℕ). written 0 l b.out.now) (run_digest b.width m (begun h)) in
+    parts_written head_bytes (end h) b.index.now (headed h) states (head-long h) (states-long h c.finish.ensures.1.0)
+    (omega (arith, c.index_bytes-end.ensures)) (omega (arith, room h, index-long h))
+    ∙ ap (λ (l : List ℕ). written 0 l b.index.now) (run_index b.width m (begun h) whole c.write_head.ensures c.finish.ensures.1.0) in
+    let out = c.finish.ensures.1.1 ∙ ap (λ (l : List ℕ). written 0 l b.out.now) (run_digest b.width m (begun h)) in
     all_written none _ b.index.now _ b.out.now _ b.blocks.now index out
-    (d.finish.ensures.0 ∙ sub-zero (compressions (family_of b.width) b.count))
+    (c.finish.ensures.0 ∙ sub-zero (compressions (family_of b.width) b.count))
 
-pub index-spec : {M : Type 1} → statement M
-index-spec =
+pub index_spec : {M : Type 1} → statement M
+index_spec =
     tie.close
     (tie.spec (λ c κs. search rules) returns (λ c κs. search rules) (λ c κs. search rules) (λ c. search rules) (λ c. search rules)
     part-write-head-end (λ c κs. search rules) (λ c. search rules) (λ c. search rules) part-finish-end finish-requires (λ c. search rules)

@@ -25,131 +25,125 @@ use Rattle.index.proofs.Outputs.{parts_written, length_from, start_words, correc
 use Rattle.index.proofs.reindex.Statement.{statement}
 use Rattle.index.proofs.reindex.Tie as tie
 
-returns : tie.Need-returns
+returns : tie.Need-returns-then-refused-ne0
 returns c =
-    let a = c.before.before.before.before.before.before.args in
-    nothing_written c.before.reindex-refusal.ensures c.if1.true _ a.index.now _ a.out.now _ a.blocks.now
+    let a = c.args in
+    nothing_written c.reindex_refusal-refused.ensures c.if-refused-ne0.true _ a.index.now _ a.out.now _ a.blocks.now
 
--- The place where the call is accepted, from the one where sizes are known; and the function's start.
-abbrev start : tie.Else1 → tie.Start
-start c = c.before.before.before.before.before.before
-
-abbrev passed : tie.After-block-bytes → tie.Else1
+-- The place where the call is accepted, from the one where sizes are known.
+abbrev passed : tie.After-block_bytes → tie.Else-refused-ne0
 passed c = c.before.before.before
 
-good : (c : tie.Else1)
-    → let a = (start c).args in
+good : (c : tie.Else-refused-ne0)
+    → let a = c.args in
     Accepted a.width a.message.now a.count (length a.index.now) (length a.out.now) × (fits a.width a.count a.old.now ≡ true)
 good c =
-    let a = (start c).args in
+    let a = c.args in
     corrects a.width a.message.now a.count (length a.index.now) (length a.out.now) a.old.now a.block
-    c.before.reindex-refusal.ensures c.if1.false
+    c.reindex_refusal-refused.ensures c.if-refused-ne0.false
 
 -- Where the states from that one on lie.
-module _ (c : tie.After-block-bytes) where
-  abbrev s : tie.Start
-  s = start (passed c)
-
+module _ (c : tie.After-block_bytes) where
   abbrev f : Family
-  f = family_of s.args.width
+  f = family_of c.args.width
 
   abbrev i : ℕ
-  i = c.before.before.starts-at.result
+  i = c.starts_at-i.result
 
   abbrev size : ℕ
-  size = c.block_bytes_lem.result
+  size = c.block_bytes.result
 
   abbrev state : List ℕ
-  state = c.before.start-state.result
+  state = c.start_state-state.result
 
-  before-start : size * i ≤ block_bytes f * kept f s.args.count
-  before-start = states_before f s.args.count s.args.block c.block_bytes_lem.ensures c.before.before.starts-at.ensures
+  before-start : size * i ≤ block_bytes f * kept f c.args.count
+  before-start = states_before f c.args.count c.args.block c.block_bytes.ensures c.starts_at-i.ensures
 
-  old-size : length s.args.old.now ≡ head_bytes + block_bytes f * kept f s.args.count
+  old-size : length c.args.old.now ≡ head_bytes + block_bytes f * kept f c.args.count
   old-size = (fit (good (passed c)).1).size
 
-  words : length (start_state s.args.width s.args.old.now s.args.count s.args.block) ≡ state_words f
-  words = start_words s.args.width s.args.old.now s.args.count s.args.block (good (passed c)).0.known
+  words : length (start_state c.args.width c.args.old.now c.args.count c.args.block) ≡ state_words f
+  words = start_words c.args.width c.args.old.now c.args.count c.args.block (good (passed c)).0.known
 
-  begun : take (state_words f) state ≡ start_state s.args.width s.args.old.now s.args.count s.args.block
-  begun = ap (take (state_words f)) c.before.start-state.ensures ∙ take_padded 32 (state_words f) _ words (words_within f)
+  begun : take (state_words f) state ≡ start_state c.args.width c.args.old.now c.args.count c.args.block
+  begun = ap (take (state_words f)) c.start_state-state.ensures ∙ take_padded 32 (state_words f) _ words (words_within f)
 
-start-state-requires : tie.Need-start-state-requires
+start-state-requires : tie.Need-start_state-state-requires
 start-state-requires c κs = (good c.before).1
 
-mul-middle : tie.Need-overflow-mul-middle
+mul-middle : tie.Need-overflow_mul-middle
 mul-middle c = omega (arith, before-start c, old-size c)
 
-add-middle : tie.Need-overflow-add-middle
+add-middle : tie.Need-overflow_add-middle
 add-middle c = omega (arith, before-start c, old-size c)
 
-part-write-bytes-end : tie.Need-slice-bounds-write-bytes-end
+part-write-bytes-end : tie.Need-slice_bounds-write_bytes-end
 part-write-bytes-end c = omega (arith, before-start c.before, (good (passed c.before)).0.index_room)
 
-write-bytes-requires : tie.Need-write-bytes-requires
+write-bytes-requires : tie.Need-write_bytes-requires
 write-bytes-requires c κs =
     let b = c.before.before in
     omega (
       arith,
-      length-take (head_bytes + size b * i b - 0) (s b).args.index.now,
+      length-take (head_bytes + size b * i b - 0) c.args.index.now,
       before-start b,
       old-size b,
     )
 
 -- What is carried over, and the index with it.
-module _ (c : tie.After-write-bytes) where
-  abbrev b : tie.After-block-bytes
+module _ (c : tie.After-write_bytes) where
+  abbrev b : tie.After-block_bytes
   b = c.before.before.before
 
   abbrev middle : ℕ
   middle = head_bytes + size b * i b
 
   abbrev end : ℕ
-  end = c.before.before.index-bytes.result
+  end = c.index_bytes-end.result
 
   abbrev carried : List ℕ
-  carried = c.write_bytes.new.0
+  carried = c.write_bytes.new.out
 
-  ended : end ≡ head_bytes + block_bytes (f b) * kept (f b) (s b).args.count
-  ended = c.before.before.index-bytes.ensures
+  ended : end ≡ head_bytes + block_bytes (f b) * kept (f b) c.args.count
+  ended = c.index_bytes-end.ensures
 
-  middle-room : middle ≤ length (s b).args.index.now
+  middle-room : middle ≤ length c.args.index.now
   middle-room = omega (arith, before-start b, (good (passed b)).0.index_room)
 
-  carried-right : carried ≡ take middle (s b).args.old.now
-  carried-right = c.write_bytes.ensures ∙ ap (λ (n : ℕ). take n (s b).args.old.now) (front_size middle (s b).args.index.now middle-room)
+  carried-right : carried ≡ take middle c.args.old.now
+  carried-right = c.write_bytes.ensures ∙ ap (λ (n : ℕ). take n c.args.old.now) (front_size middle c.args.index.now middle-room)
 
   carried-long : length carried ≡ middle
-  carried-long = ap length carried-right ∙ omega (arith, length-take middle (s b).args.old.now, before-start b, old-size b)
+  carried-long = ap length carried-right ∙ omega (arith, length-take middle c.args.old.now, before-start b, old-size b)
 
-  index-long : length (put_mid 0 (middle - 0) (s b).args.index.now carried) ≡ length (s b).args.index.now
-  index-long = put_length 0 middle (s b).args.index.now carried (omega arith) middle-room (omega (arith, carried-long))
+  index-long : length (put_mid 0 (middle - 0) c.args.index.now carried) ≡ length c.args.index.now
+  index-long = put_length 0 middle c.args.index.now carried (omega arith) middle-room (omega (arith, carried-long))
 
-  room : end ≤ length (put_mid 0 (middle - 0) (s b).args.index.now carried)
+  room : end ≤ length (put_mid 0 (middle - 0) c.args.index.now carried)
   room = omega (arith, index-long, (good (passed b)).0.index_room, ended)
 
   order : middle ≤ end
   order = omega (arith, before-start b, ended)
 
-  states-size : end - middle ≡ block_bytes (f b) * (kept (f b) (s b).args.count - i b)
+  states-size : end - middle ≡ block_bytes (f b) * (kept (f b) c.args.count - i b)
   states-size =
-      let states : end - middle ≡ block_bytes (f b) * kept (f b) (s b).args.count - size b * i b = omega (arith, ended) in
-      states ∙ states_behind (f b) (s b).args.count (s b).args.block b.block_bytes_lem.ensures b.before.before.starts-at.ensures
+      let states : end - middle ≡ block_bytes (f b) * kept (f b) c.args.count - size b * i b = omega (arith, ended) in
+      states ∙ states_behind (f b) c.args.count c.args.block c.block_bytes.ensures c.starts_at-i.ensures
 
   states-long : {y : List ℕ}
-      → y ≡ states_from (f b) (take (state_words (f b)) (state b)) (message (s b).args.message.now (s b).args.count) (i b)
+      → y ≡ states_from (f b) (take (state_words (f b)) (state b)) (message c.args.message.now c.args.count) (i b)
       → length y ≡ end - middle
   states-long wrote =
-      let size = length_message (s b).args.message.now (s b).args.count (good (passed b)).0.whole.within in
-      ap length wrote ∙ length_from (f b) _ _ (s b).args.count (i b) (ap length (begun b) ∙ words b) size ∙ sym states-size
+      let size = length_message c.args.message.now c.args.count (good (passed b)).0.whole.within in
+      ap length wrote ∙ length_from (f b) _ _ c.args.count (i b) (ap length (begun b) ∙ words b) size ∙ sym states-size
 
-sub-finish : tie.Need-overflow-sub-finish
+sub-finish : tie.Need-slice_bounds-finish-count
 sub-finish c = omega (arith, order c.before.before)
 
-part-finish-start : tie.Need-slice-bounds-finish-start
+part-finish-start : tie.Need-slice_bounds-finish-start
 part-finish-start c = omega (arith, order c.before.before)
 
-part-finish-end : tie.Need-slice-bounds-finish-end
+part-finish-end : tie.Need-slice_bounds-finish-end
 part-finish-end c = omega (arith, room c.before.before)
 
 finish-requires : tie.Need-finish-requires
@@ -158,38 +152,36 @@ finish-requires c κs =
     let d = b w in
     let g = (good (passed d)).0 in (
       g.known,
-      refit (f d) (state d) _ (words d) d.before.start-state.ensures,
+      refit (f d) (state d) _ (words d) c.start_state-state.ensures,
       g.whole.within,
-      omega (arith, d.before.before.starts-at.ensures, skipped_full (f d) (s d).args.count (s d).args.block),
-      mid_len (middle w) (end w) (put_mid 0 (middle w - 0) (s d).args.index.now (carried w)) (room w) ∙ states-size w,
+      omega (arith, c.starts_at-i.ensures, skipped_full (f d) c.args.count c.args.block),
+      mid_len (middle w) (end w) (put_mid 0 (middle w - 0) c.args.index.now (carried w)) (room w) ∙ states-size w,
       g.digest_room,
     )
 
-returns-2 : tie.Need-returns-2
+returns-2 : tie.Need-returns
 returns-2 c =
-    let r = c.before.before.before.before in
-    let w = r.before.before.before.before.before in
+    let w = c.before.before.before.before.before.before.before.before.before in
     let d = b w in
-    let p = passed d in
-    let a = (s d).args in
-    let none = sym p.if1.left ∙ p.before.reindex-refusal.ensures in
+    let a = c.args in
+    let none = sym c.if-refused-ne0.false ∙ c.reindex_refusal-refused.ensures in
     let m = message a.message.now a.count in
-    let whole = length_message a.message.now a.count (good p).0.whole.within in
-    let placed = d.before.before.starts-at.ensures in
-    let states = r.finish.new.1.1.1.1.1.0 in
+    let whole = length_message a.message.now a.count (good (passed d)).0.whole.within in
+    let placed = c.starts_at-i.ensures in
+    let states = c.finish.new.states in
     let index =
-    parts_written (middle w) (end w) a.index.now (carried w) states (carried-long w) (states-long w r.finish.ensures.1.0) (order w)
+    parts_written (middle w) (end w) a.index.now (carried w) states (carried-long w) (states-long w c.finish.ensures.1.0) (order w)
     (omega (arith, room w, index-long w))
     ∙ ap (λ (l : List ℕ). written 0 l a.index.now)
-    (corrected_index_lem a.width a.old.now m a.block whole placed (begun d) d.block_bytes_lem.ensures (carried-right w) r.finish.ensures.1.0) in
+    (corrected_index_lem a.width a.old.now m a.block whole placed (begun d) c.block_bytes.ensures (carried-right w) c.finish.ensures.1.0) in
     let out =
-    r.finish.ensures.1.1
+    c.finish.ensures.1.1
     ∙ ap (λ (l : List ℕ). written 0 l a.out.now) (corrected_digest_lem a.width a.old.now m a.block whole placed (begun d)) in
     all_written none _ a.index.now _ a.out.now _ a.blocks.now index out
-    (counted (f d) a.count a.block placed r.finish.ensures.0)
+    (counted (f d) a.count a.block placed c.finish.ensures.0)
 
-pub reindex-spec : {M : Type 1} → statement M
-reindex-spec =
+pub reindex_spec : {M : Type 1} → statement M
+reindex_spec =
     tie.close
     (tie.spec (λ c κs. search rules) returns (λ c κs. search rules) start-state-requires (λ c κs. search rules) mul-middle add-middle
     (λ c κs. search rules) (λ c. search rules) (λ c. search rules) part-write-bytes-end write-bytes-requires sub-finish part-finish-start

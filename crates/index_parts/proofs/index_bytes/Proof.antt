@@ -8,14 +8,14 @@ use Rattle.index_parts.proofs.Sizes.{states_small}
 use Rattle.index_parts.proofs.index_bytes.Statement.{statement}
 use Rattle.index_parts.proofs.index_bytes.Tie as tie
 
-mul-result : tie.Need-overflow-mul-result
-mul-result c = omega (arith, states_small (family_of c.before.before.args.width) c.before.block_bytes_lem.ensures c.kept.ensures)
+mul-result : tie.Need-overflow_mul-result
+mul-result c = omega (arith, states_small (family_of c.args.width) c.block_bytes.ensures c.kept.ensures)
 
-add-result : tie.Need-overflow-add-result
-add-result c = omega (arith, states_small (family_of c.before.before.args.width) c.before.block_bytes_lem.ensures c.kept.ensures)
+add-result : tie.Need-overflow_add-result
+add-result c = omega (arith, states_small (family_of c.args.width) c.block_bytes.ensures c.kept.ensures)
 
 returns : tie.Need-returns
-returns c = λ i. head_bytes + c.before.block_bytes_lem.ensures i * c.kept.ensures i
+returns c = λ i. head_bytes + c.block_bytes.ensures i * c.kept.ensures i
 
-pub index-bytes-spec : {M : Type 1} → statement M
-index-bytes-spec = tie.close (tie.spec (λ c κs. search rules) (λ c κs. search rules) mul-result add-result returns)
+pub index_bytes_spec : {M : Type 1} → statement M
+index_bytes_spec = tie.close (tie.spec (λ c κs. search rules) (λ c κs. search rules) mul-result add-result returns)

@@ -5,33 +5,25 @@ use Rattle.index_parts.proofs.Refusals.{reindex_refused, reindex_unfit, reindex_
 use Rattle.index_parts.proofs.reindex_refusal.Statement.{statement}
 use Rattle.index_parts.proofs.reindex_refusal.Tie as tie
 
-abbrev start : tie.After-message-refusal → tie.Start
-start c = c.before.before.before
-
-returns : tie.Need-returns
+returns : tie.Need-returns-then-refused-ne0
 returns c =
-    let t = c.before in
-    let a = (start t).args in
-    reindex_refused a.width a.message.now a.count t.message-refusal.result t.message-refusal.ensures a.index_room a.room
-    a.old.now a.block c.if1.true
+    let a = c.args in
+    reindex_refused a.width a.message.now a.count c.message_refusal-refused.result c.message_refusal-refused.ensures a.index_room a.room
+    a.old.now a.block c.if-refused-ne0.true
 
-returns-2 : tie.Need-returns-2
+returns-2 : tie.Need-returns-then-unfit-ne0
 returns-2 c =
-    let u = c.before.before in
-    let t = u.before.before in
-    let a = (start t).args in
-    reindex_unfit a.width a.message.now a.count t.message-refusal.result t.message-refusal.ensures a.index_room a.room
-    a.old.now a.block u.before.if1.false u.fit-refusal.result u.fit-refusal.ensures c.if2.true
+    let a = c.args in
+    reindex_unfit a.width a.message.now a.count c.message_refusal-refused.result c.message_refusal-refused.ensures a.index_room a.room
+    a.old.now a.block c.if-refused-ne0.false c.fit_refusal-unfit.result c.fit_refusal-unfit.ensures c.if-unfit-ne0.true
 
-returns-3 : tie.Need-returns-3
+returns-3 : tie.Need-returns
 returns-3 c =
-    let u = c.before.before in
-    let t = u.before.before in
-    let a = (start t).args in
-    c.before.room-refusal.ensures
-    ∙ reindex_room a.width a.message.now a.count t.message-refusal.result t.message-refusal.ensures a.index_room a.room
-    a.old.now a.block u.before.if1.false u.fit-refusal.result u.fit-refusal.ensures c.if2.false
+    let a = c.args in
+    c.room_refusal-short.ensures
+    ∙ reindex_room a.width a.message.now a.count c.message_refusal-refused.result c.message_refusal-refused.ensures a.index_room a.room
+    a.old.now a.block c.if-refused-ne0.false c.fit_refusal-unfit.result c.fit_refusal-unfit.ensures c.if-unfit-ne0.false
 
-pub reindex-refusal-spec : {M : Type 1} → statement M
-reindex-refusal-spec =
+pub reindex_refusal_spec : {M : Type 1} → statement M
+reindex_refusal_spec =
     tie.close (tie.spec (λ c κs. search rules) returns (λ c κs. search rules) (λ c κs. search rules) returns-2 returns-3)

@@ -14,48 +14,42 @@ use Rattle.index_parts.proofs.Starting.{none_kept, one_kept}
 use Rattle.index_parts.proofs.start_state.Statement.{statement}
 use Rattle.index_parts.proofs.start_state.Tie as tie
 
-returns : tie.Need-returns
+returns : tie.Need-returns-then-states-eq0
 returns c =
-    let k = c.before.before.before in
-    let a = k.before.before.args in
-    none_kept a.width a.count a.old.now a.block c.start-state.ensures (sym k.kept.ensures ∙ c.before.if1.true)
+    let a = c.args in
+    none_kept a.width a.count a.old.now a.block c.start_state.ensures (sym c.kept-states.ensures ∙ c.if-states-eq0.true)
 
 -- Where a state is kept: the function's start, and the place of the state in the index.
-abbrev start : tie.After-block-bytes → tie.Start
-start c = c.before.before.before.before.before
+some : (c : tie.After-block_bytes-size) → kept (family_of c.args.width) c.args.count ≡ 0 → ⊥
+some c none = c.if-states-eq0.false (c.kept-states.ensures ∙ none)
 
-some : (c : tie.After-block-bytes) → kept (family_of (start c).args.width) (start c).args.count ≡ 0 → ⊥
-some c none = c.before.if1.false (c.before.before.before.kept.ensures ∙ none)
-
-within : (c : tie.After-block-bytes)
-    → let size = c.block_bytes_lem.result in
-    head_bytes + (size * c.before.before.starts-at.result + size) ≤ length (start c).args.old.now
+within : (c : tie.After-block_bytes-size)
+    → let size = c.block_bytes-size.result in
+    head_bytes + (size * c.starts_at-i.result + size) ≤ length c.args.old.now
 within c =
-    let a = (start c).args in
+    let a = c.args in
     omega (
       arith,
-      start_within (family_of a.width) a.count a.block c.block_bytes_lem.ensures c.before.before.starts-at.ensures (some c),
-      (fit (start c).requires).size,
+      start_within (family_of a.width) a.count a.block c.block_bytes-size.ensures c.starts_at-i.ensures (some c),
+      (fit c.requires).size,
     )
 
-mul_at : tie.Need-overflow-mul-at
+mul_at : tie.Need-overflow_mul-at
 mul_at c = omega (arith, within c)
 
-add-read-words : tie.Need-overflow-add-read-words
+add-read-words : tie.Need-overflow_add-at
 add-read-words c = omega (arith, within c)
 
-read-words-requires : tie.Need-read-words-requires
+read-words-requires : tie.Need-read_words-requires
 read-words-requires c κs =
-    (omega (arith, c.block_bytes_lem.ensures, bytes_within (family_of (start c).args.width)), omega (arith, within c))
+    (omega (arith, c.block_bytes-size.ensures, bytes_within (family_of c.args.width)), omega (arith, within c))
 
-returns-2 : tie.Need-returns-2
+returns-2 : tie.Need-returns
 returns-2 c =
-    let s = c.before in
-    let a = (start s).args in
-    one_kept a.width a.count a.old.now a.block s.block_bytes_lem.ensures s.before.before.starts-at.ensures (some s) c.read_words.ensures
+    let a = c.args in
+    one_kept a.width a.count a.old.now a.block c.block_bytes-size.ensures c.starts_at-i.ensures (some c.before) c.read_words.ensures
 
-pub start-state-spec : {M : Type 1} → statement M
-start-state-spec =
+pub start_state_spec : {M : Type 1} → statement M
+start_state_spec =
     tie.close
-    (tie.spec (λ c κs. search rules) (λ c κs. search rules) (λ c κs. search rules) returns (λ c κs. search rules) mul_at add-read-words
-    read-words-requires returns-2)
+    (tie.spec (λ c κs. search rules) (λ c κs. search rules) (λ c κs. search rules) returns (λ c κs. search rules) mul_at add-read-words read-words-requires returns-2)

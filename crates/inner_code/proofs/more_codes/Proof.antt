@@ -10,11 +10,11 @@ use borrow.Author.Rules.{rules}
 use Rattle.inner_code.proofs.more_codes.Statement.{statement}
 use Rattle.inner_code.proofs.more_codes.Tie as tie
 
-abbrev invariant-loop : tie.invariant-loop
+abbrev invariant-loop : tie.invariant-loop-k
 invariant-loop y by185₀ by233₀ at k₀ by185 by233 k =
     (k ≤ 128) × (Filled 0 (length y) (coded 185 y) (at + k) by185 × Filled 0 (length y) (coded 233 y) (at + k) by233)
 
-abbrev decreases-loop : tie.decreases-loop
+abbrev decreases-loop : tie.decreases-loop-k
 decreases-loop y by185₀ by233₀ at k₀ by185 by233 k = 128 - k
 
 begun : (c : ℕ) (y l : List ℕ) (at : ℕ) → Begun c y at l → Filled 0 (length y) (coded c y) (at + 0) l
@@ -26,44 +26,36 @@ made c y l at n f all = record { size = f.size; holds = λ k below. f.holds k (o
 further : (c : ℕ) (y l : List ℕ) (at k : ℕ) → Filled 0 (length y) (coded c y) (at + k + 1) l → Filled 0 (length y) (coded c y) (at + (k + 1)) l
 further c y l at k f = record { size = f.size; holds = λ j below. f.holds j (omega arith) }
 
-abbrev start : tie.At-loop invariant-loop decreases-loop → tie.Start invariant-loop decreases-loop
-start c = c.before.before.before.before
-
-loop-holds : tie.Need-loop-init invariant-loop decreases-loop
+loop-holds : tie.Need-loop-k-init invariant-loop decreases-loop
 loop-holds c =
-    let s = c.before.before.before in
-    (search rules, (begun 185 _ _ s.args.at s.requires.1.0, begun 233 _ _ s.args.at s.requires.1.1))
+    (search rules, (begun 185 _ _ c.args.at c.requires.1.0, begun 233 _ _ c.args.at c.requires.1.1))
 
 code-requires : tie.Need-code-requires invariant-loop decreases-loop
-code-requires c κs = let at = c.before.before in (search rules, (start at).requires.0.1 ((start at).args.at + at.loop.k))
+code-requires c κs = (search rules, c.requires.0.1 (c.args.at + c.loop-k.k))
 
-code-requires-2 : tie.Need-code-requires-2 invariant-loop decreases-loop
-code-requires-2 c κs = let at = c.before.before.before in (search rules, (start at).requires.0.1 ((start at).args.at + at.loop.k))
+code-requires-2 : tie.Need-code-requires-in-loop-k invariant-loop decreases-loop
+code-requires-2 c κs = (search rules, c.requires.0.1 (c.args.at + c.loop-k.k))
 
-loop-again : tie.Need-loop-preserved invariant-loop decreases-loop
+loop-again : tie.Need-loop-k-preserved invariant-loop decreases-loop
 unfolding coded
 loop-again c =
-    let at = c.before.before.before.before in
-    let filled = at.loop.invariant.1 in
-    let from = (start at).args.at in
-    let y = (start at).args.y.now in (
+    let filled = c.loop-k.invariant.1 in
+    let from = c.args.at in
+    let y = c.args.y.now in (
       search rules,
       (
-        further 185 y _ from at.loop.k (filled_more filled.0 (omega arith) c.before.code.ensures),
-        further 233 y _ from at.loop.k (filled_more filled.1 (omega arith) c.code2.ensures),
+        further 185 y _ from c.loop-k.k (filled_more filled.0 (omega arith) c.code.ensures),
+        further 233 y _ from c.loop-k.k (filled_more filled.1 (omega arith) c.code-in-loop-k.ensures),
       ),
     )
 
 returns : tie.Need-returns invariant-loop decreases-loop
 returns c =
-    let at = c.before in
-    let filled = at.loop.invariant.1 in
-    let from = (start at).args.at in
-    (made 185 _ _ from at.loop.k filled.0 (omega arith), made 233 _ _ from at.loop.k filled.1 (omega arith))
+    let filled = c.loop-k.invariant.1 in
+    let from = c.args.at in
+    (made 185 _ _ from c.loop-k.k filled.0 (omega arith), made 233 _ _ from c.loop-k.k filled.1 (omega arith))
 
-pub more-codes-spec : {M : Type 1} → statement M
-more-codes-spec =
+pub more_codes_spec : {M : Type 1} → statement M
+more_codes_spec =
     tie.close
-    (tie.spec invariant-loop decreases-loop loop-holds (λ c. search rules) (λ c. search rules) (λ c. search rules) code-requires (λ c. search rules)
-    (λ c. search rules) (λ c. search rules) code-requires-2 (λ c. search rules) (λ c. search rules) (λ c. search rules) (λ c. search rules)
-    (λ c. search rules) loop-again (λ c. search rules) (λ c. search rules) returns)
+    (tie.spec invariant-loop decreases-loop loop-holds (λ c. search rules) (λ c. search rules) (λ c. search rules) code-requires (λ c. search rules) (λ c. search rules) (λ c. search rules) code-requires-2 (λ c. search rules) (λ c. search rules) (λ c. search rules) (λ c. search rules) (λ c. search rules) loop-again (λ c. search rules) (λ c. search rules) returns)

@@ -7,10 +7,10 @@ use Rattle.inner_code.proofs.Signed.{raised, raised_is, raised_lt, raised_residu
 use Rattle.inner_code.proofs.reduced.Statement.{statement}
 use Rattle.inner_code.proofs.reduced.Tie as tie
 
-add-positive : tie.Need-overflow-add-positive
+add-positive : tie.Need-overflow_add-positive
 add-positive c = rw (to_z-of_z c.ranges.z, raised_is c.args.z c.requires) (record { sfits = omega (arith, raised_lt c.args.z c.requires) })
 
-cast-positive : tie.Need-overflow-cast-positive
+cast-positive : tie.Need-overflow_cast-positive
 cast-positive c =
     let below = raised_lt c.args.z c.requires in
     rw (to_z-of_z c.ranges.z, raised_is c.args.z c.requires, to_z_pos w32 {n = raised c.args.z} (omega arith)) (tt, record { fits = omega arith })
@@ -20,5 +20,5 @@ returns c =
     let below = raised_lt c.args.z c.requires in
     rw (to_z-of_z c.ranges.z, raised_is c.args.z c.requires, to_z_pos w32 {n = raised c.args.z} (omega arith)) (raised_residue c.args.z c.requires)
 
-pub reduced-spec : {M : Type 1} → statement M
-reduced-spec = tie.close (tie.spec add-positive cast-positive (λ c. search rules) returns)
+pub reduced_spec : {M : Type 1} → statement M
+reduced_spec = tie.close (tie.spec add-positive cast-positive (λ c. search rules) returns)

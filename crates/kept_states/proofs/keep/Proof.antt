@@ -14,114 +14,99 @@ use Rattle.kept_states.proofs.Keeping.{Kept, kept_none, kept_next, kept_all}
 use Rattle.kept_states.proofs.keep.Statement.{statement}
 use Rattle.kept_states.proofs.keep.Tie as tie
 
-abbrev invariant-loop : tie.invariant-loop
+abbrev invariant-loop : tie.invariant-loop-k
 invariant-loop width state₀ blocks full states₀ size k₀ state states k =
     Kept (family_of width) (take (state_words (family_of width)) state₀) blocks full k state states
 
-abbrev decreases-loop : tie.decreases-loop
+abbrev decreases-loop : tie.decreases-loop-k
 decreases-loop width state₀ blocks full states₀ size k₀ state states k = full + 16 - 16 * k
 
--- The place before the loop and the function's start; a turn's place once its state is written, and the turn's own.
-abbrev entry : tie.After-block-bytes invariant-loop decreases-loop → tie.Start invariant-loop decreases-loop
-entry c = c.before.before.before
-
-abbrev turn : tie.After-slice-known2 invariant-loop decreases-loop → tie.In-loop invariant-loop decreases-loop
-turn c = c.before.before.before.before.before
-
 -- In a turn blocks and states lie within what was lent.
-module _ (c : tie.In-loop invariant-loop decreases-loop) where
-  abbrev begun : tie.After-block-bytes invariant-loop decreases-loop
-  begun = c.before.before
-
+module _ (c : tie.In-loop-k invariant-loop decreases-loop) where
   abbrev f : Family
-  f = family_of (entry begun).args.width
+  f = family_of c.args.width
 
   abbrev size : ℕ
-  size = begun.block_bytes_lem.result
+  size = c.block_bytes-size.result
 
   abbrev k : ℕ
-  k = c.before.loop.k
+  k = c.loop-k.k
 
   abbrev full : ℕ
-  full = (entry begun).args.full
+  full = c.args.full
 
   sized : size ≡ block_bytes f
-  sized = begun.block_bytes_lem.ensures
+  sized = c.block_bytes-size.ensures
 
-  state-room : size * k + size ≤ length c.before.loop.states
-  state-room = omega (arith, state_within f sized k full c.loop-test.true, c.before.loop.invariant.size)
+  state-room : size * k + size ≤ length c.loop-k.states
+  state-room = omega (arith, state_within f sized k full c.loop-k-test.true, c.loop-k.invariant.size)
 
-  blocks-room : (n : ℕ) → n ≡ min (full - 16 * k) 16 → size * (16 * k) + size * n ≤ length (entry begun).args.blocks.now
-  blocks-room n counted = omega (arith, blocks_within f sized (16 * k) n full (omega (arith, counted, c.loop-test.true)), (entry begun).pre.1)
+  blocks-room : (n : ℕ) → n ≡ min (full - 16 * k) 16 → size * (16 * k) + size * n ≤ length c.args.blocks.now
+  blocks-room n counted = omega (arith, blocks_within f sized (16 * k) n full (omega (arith, counted, c.loop-k-test.true)), c.requires.1)
 
-loop-holds : tie.Need-loop-init invariant-loop decreases-loop
+-- A turn's place once its state is written, and the turn's own.
+abbrev turn : tie.After-slice_known-in-loop-k-1 invariant-loop decreases-loop → tie.In-loop-k invariant-loop decreases-loop
+turn c = c.before.before.before.before.before
+
+loop-holds : tie.Need-loop-k-init invariant-loop decreases-loop
 loop-holds c =
-    let s = entry c in
-    kept_none (family_of s.args.width) (take (state_words (family_of s.args.width)) s.args.state.now) s.args.blocks.now s.args.full
-    s.pre.0 s.pre.2
+    kept_none (family_of c.args.width) (take (state_words (family_of c.args.width)) c.args.state.now) c.args.blocks.now c.args.full
+    c.requires.0 c.requires.2
 
-mul-loop : tie.Need-overflow-mul-loop invariant-loop decreases-loop
-mul-loop c =
-    let s = entry c.before in
-    omega (arith, c.loop.invariant.behind, few_blocks (family_of s.args.width) s.args.full, s.pre.1)
+mul-loop : tie.Need-overflow_mul-k invariant-loop decreases-loop
+mul-loop c = omega (arith, c.loop-k.invariant.behind, few_blocks (family_of c.args.width) c.args.full, c.requires.1)
 
-mul_at : tie.Need-overflow-mul-at invariant-loop decreases-loop
+mul_at : tie.Need-overflow_mul-at invariant-loop decreases-loop
 mul_at c = omega (arith, state-room c)
 
-add-write-words : tie.Need-overflow-add-write-words invariant-loop decreases-loop
+add-write-words : tie.Need-overflow_add-at invariant-loop decreases-loop
 add-write-words c = omega (arith, state-room c)
 
-part-write-words-end : tie.Need-slice-bounds-write-words-end invariant-loop decreases-loop
+part-write-words-end : tie.Need-slice_bounds-write_words-end invariant-loop decreases-loop
 part-write-words-end c = omega (arith, state-room c)
 
-write-words-requires : tie.Need-write-words-requires invariant-loop decreases-loop
+write-words-requires : tie.Need-write_words-requires invariant-loop decreases-loop
 write-words-requires c κs =
     let l = c.before.before in
-    let part = part_size (size l * k l) (size l) l.before.loop.states (state-room l) in
+    let part = part_size (size l * k l) (size l) c.loop-k.states (state-room l) in
     (omega (arith, part, sized l, bytes_within (f l)), rw part (rw (sized l) (whole_words (f l))))
 
-mul-from : tie.Need-overflow-mul-from invariant-loop decreases-loop
+mul-from : tie.Need-overflow_mul-from invariant-loop decreases-loop
 mul-from c = omega (arith, blocks-room (turn c) (min (full (turn c) - 16 * k (turn c)) 16) refl)
 
 -- The end of what is compressed.
-end-within : (c : tie.After-absorb-arg invariant-loop decreases-loop)
+end-within : (c : tie.After-absorb-arg-1 invariant-loop decreases-loop)
     → let l = turn c.before.before in
-    size l * (16 * k l) + size l * c.before.stretch.result ≤ length (entry (begun l)).args.blocks.now
-end-within c = blocks-room (turn c.before.before) c.before.stretch.result c.before.stretch.ensures
+    size l * (16 * k l) + size l * c.stretch-count.result ≤ length c.args.blocks.now
+end-within c = blocks-room (turn c.before.before) c.stretch-count.result c.stretch-count.ensures
 
-mul-absorb : tie.Need-overflow-mul-absorb invariant-loop decreases-loop
+mul-absorb : tie.Need-overflow_mul-size invariant-loop decreases-loop
 mul-absorb c = omega (arith, end-within c)
 
-add-absorb : tie.Need-overflow-add-absorb invariant-loop decreases-loop
+add-absorb : tie.Need-overflow_add-from invariant-loop decreases-loop
 add-absorb c = omega (arith, end-within c)
 
-part-absorb-end : tie.Need-slice-bounds-absorb-end invariant-loop decreases-loop
+part-absorb-end : tie.Need-slice_bounds-absorb-end invariant-loop decreases-loop
 part-absorb-end c = omega (arith, end-within c)
 
 absorb-requires : tie.Need-absorb-requires invariant-loop decreases-loop
-absorb-requires c κs =
-    let l = turn c.before.before.before in
-    ap length l.before.loop.inv.reached ∙ length_padded 32 _
+absorb-requires c κs = ap length c.loop-k.invariant.reached ∙ length_padded 32 _
 
-loop-again : tie.Need-loop-preserved invariant-loop decreases-loop
+loop-again : tie.Need-loop-k-preserved invariant-loop decreases-loop
 loop-again c =
-    let stretched = c.before.before.before in
-    let l = turn stretched.before in
-    let s = entry (begun l) in
-    let words = take (state_words (f l)) s.args.state.now in
-    let wrote = stretched.before.before.before.write-words in
-    kept_next (f l) words s.args.blocks.now (full l) (length_prefix (f l) s.args.state.now s.pre.0)
-    (λ i. ((begun l).before.before.shared-slice-known.given i).fits) s.pre.1 l.loop-test.taken l.before.loop.inv
-    (sized l) stretched.stretch.ensures wrote.ensures c.absorb.ensures
+    let l = turn c.before.before.before.before in
+    let words = take (state_words (f l)) c.args.state.now in
+    kept_next (f l) words c.args.blocks.now c.args.full (length_prefix (f l) c.args.state.now c.requires.0)
+    (λ i. (c.shared_slice_known-1.given i).fits) c.requires.1 c.loop-k-test.true c.loop-k.invariant
+    (sized l) c.stretch-count.ensures c.write_words.ensures c.absorb.ensures
 
-same_length : tie.Need-same-length invariant-loop decreases-loop
-same_length c = c.before.loop.invariant.size ∙ sym (entry c.before.before).pre.2
+same_length : tie.Need-shape_of-states invariant-loop decreases-loop
+same_length c = c.loop-k.invariant.size ∙ sym c.requires.2
 
 returns : tie.Need-returns invariant-loop decreases-loop
 returns c =
-    let s = entry c.before.before in
-    kept_all (family_of s.args.width) (take (state_words (family_of s.args.width)) s.args.state.now) s.args.blocks.now s.args.full
-    c.before.loop.invariant c.loop-test.false
+    kept_all (family_of c.args.width) (take (state_words (family_of c.args.width)) c.args.state.now) c.args.blocks.now c.args.full
+    c.loop-k.invariant c.loop-k-test.false
 
 pub keep_spec : {M : Type 1} → statement M
 keep_spec =

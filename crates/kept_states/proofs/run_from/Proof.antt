@@ -13,34 +13,31 @@ use Rattle.kept_states.proofs.Running.{states_run, final_run}
 use Rattle.kept_states.proofs.run_from.Statement.{statement}
 use Rattle.kept_states.proofs.run_from.Tie as tie
 
--- At the place where sizes and blocks are counted: the start, and where the blocks lie.
-module _ (c : tie.After-full-blocks) where
-  abbrev begun : tie.Start
-  begun = c.before.before.before.before
-
+-- At the place where sizes and blocks are counted: where the blocks lie.
+module _ (c : tie.After-full_blocks-full) where
   abbrev f : Family
-  f = family_of begun.args.width
+  f = family_of c.args.width
 
   abbrev n : ℕ
-  n = begun.args.count
+  n = c.args.count
 
   abbrev i : ℕ
-  i = begun.args.i
+  i = c.args.i
 
   abbrev size : ℕ
-  size = c.before.block_bytes_lem.result
+  size = c.block_bytes-size.result
 
   abbrev full : ℕ
-  full = c.full-blocks.result
+  full = c.full_blocks-full.result
 
   sized : size ≡ block_bytes f
-  sized = c.before.block_bytes_lem.ensures
+  sized = c.block_bytes-size.ensures
 
   counted : full ≡ n / block_bits f
-  counted = c.full-blocks.ensures
+  counted = c.full_blocks-full.ensures
 
   started : 16 * i ≤ full
-  started = omega (arith, counted, begun.pre.2)
+  started = omega (arith, counted, c.requires.2)
 
   within : 8 * (size * full) ≤ n
   within = full_within n i f sized counted
@@ -48,39 +45,38 @@ module _ (c : tie.After-full-blocks) where
   before : size * (16 * i) ≤ size * full
   before = skipped_within n i f sized counted started
 
-abbrev counting : tie.After-slice-known2 → tie.After-full-blocks
+abbrev counting : tie.After-slice_known-2-1 → tie.After-full_blocks-full
 counting c = c.before.before.before.before.before.before
 
-mul-skipped : tie.Need-overflow-mul-skipped
+mul-skipped : tie.Need-overflow_mul-skipped
 mul-skipped c = omega (arith, started c, counted c, full_fits (f c) (n c))
 
-mul-from : tie.Need-overflow-mul-from
+mul-from : tie.Need-overflow_mul-from
 mul-from c = omega (arith, before c, within c)
 
-mul-middle : tie.Need-overflow-mul-middle
+mul-middle : tie.Need-overflow_mul-middle
 mul-middle c = omega (arith, within c)
 
-sub-keep : tie.Need-overflow-sub-keep
+sub-keep : tie.Need-slice_bounds-keep-count
 sub-keep c = omega (arith, before c.before)
 
-part-keep-start : tie.Need-slice-bounds-keep-start
+part-keep-start : tie.Need-slice_bounds-keep-start
 part-keep-start c = omega (arith, before c.before)
 
-part-keep-end : tie.Need-slice-bounds-keep-end
-part-keep-end c = omega (arith, within c.before, (begun c.before).pre.1)
+part-keep-end : tie.Need-slice_bounds-keep-end
+part-keep-end c = omega (arith, within c.before, c.requires.1)
 
-sub-keep-2 : tie.Need-overflow-sub-keep-2
+sub-keep-2 : tie.Need-overflow_sub-full
 sub-keep-2 c = omega (arith, started c.before.before)
 
 keep-requires : tie.Need-keep-requires
 keep-requires c κs =
     let d = c.before.before.before in
-    let s = begun d in
-    let m = s.args.message.now in
+    let m = c.args.message.now in
     let from = size d * (16 * i d) in
-    let states = s.pre.3 ∙ ap (λ (k : ℕ). block_bytes (f d) * k) (sym (kept_behind (n d) (i d) (f d)))
+    let states = c.requires.3 ∙ ap (λ (k : ℕ). block_bytes (f d) * k) (sym (kept_behind (n d) (i d) (f d)))
     ∙ ap (λ (k : ℕ). block_bytes (f d) * ((k - 16 * i d + 15) / 16)) (sym (counted d)) in (
-      s.pre.0,
+      c.requires.0,
       omega (
         arith,
         length-take (size d * full d - from) (drop from m),
@@ -88,49 +84,43 @@ keep-requires c κs =
         part_bytes (n d) (i d) (f d) (sized d) (counted d),
         before d,
         within d,
-        s.pre.1,
+        c.requires.1,
       ),
       states,
     )
 
-mul_left : tie.Need-overflow-mul-left
+mul_left : tie.Need-overflow_mul-left
 mul_left c = omega (arith, within (counting c))
 
-sub-left : tie.Need-overflow-sub-left
+sub-left : tie.Need-overflow_sub-left
 sub-left c = omega (arith, within (counting c))
 
-sub-rest : tie.Need-overflow-sub-rest
-sub-rest c = omega (arith, within (counting c), (begun (counting c)).pre.1)
+sub-rest : tie.Need-slice_bounds-rest-count
+sub-rest c = omega (arith, within (counting c), c.requires.1)
 
-part-rest-start : tie.Need-slice-bounds-rest-start
-part-rest-start c = omega (arith, within (counting c), (begun (counting c)).pre.1)
+part-rest-start : tie.Need-slice_bounds-rest-start
+part-rest-start c = omega (arith, within (counting c), c.requires.1)
 
 conclude-requires : tie.Need-conclude-requires
 conclude-requires c κs =
-    let known = c.before.before in
-    let d = counting known in
-    let m = (begun d).args.message.now in
-    let run = known.before.before in
+    let d = counting c.before.before in
+    let m = c.args.message.now in
     let middle = size d * full d in (
-      ap length run.keep.ensures.0 ∙ length_padded 32 _,
-      omega (arith, length-take (length m - middle) (drop middle m), length-drop middle m, within d, (begun d).pre.1),
+      ap length c.keep.ensures.0 ∙ length_padded 32 _,
+      omega (arith, length-take (length m - middle) (drop middle m), length-drop middle m, within d, c.requires.1),
     )
 
 returns : tie.Need-returns
 returns c =
-    let known = c.before.before.before in
-    let run = known.before.before in
-    let d = counting known in
-    let s = begun d in
-    let a = s.args in
-    let words = take (state_words (f d)) a.state.now in (
-      final_run (f d) words a.message.now (n d) (i d) s.pre.1 s.pre.2 (sized d) (counted d) (length_prefix (f d) a.state.now s.pre.0)
-          run.keep.ensures.0 c.conclude.ensures,
-      states_run (f d) words a.message.now (n d) (i d) s.pre.1 s.pre.2 (sized d) (counted d) run.keep.ensures.1,
+    let d = counting c.before.before.before in
+    let words = take (state_words (f d)) c.args.state.now in (
+      final_run (f d) words c.args.message.now (n d) (i d) c.requires.1 c.requires.2 (sized d) (counted d)
+          (length_prefix (f d) c.args.state.now c.requires.0) c.keep.ensures.0 c.conclude.ensures,
+      states_run (f d) words c.args.message.now (n d) (i d) c.requires.1 c.requires.2 (sized d) (counted d) c.keep.ensures.1,
     )
 
-pub run-from-spec : {M : Type 1} → statement M
-run-from-spec =
+pub run_from_spec : {M : Type 1} → statement M
+run_from_spec =
     tie.close
     (tie.spec (λ c κs. search rules) (λ c κs. search rules) mul-skipped mul-from mul-middle sub-keep part-keep-start part-keep-end sub-keep-2
     keep-requires mul_left sub-left sub-rest part-rest-start (λ c. search rules) conclude-requires (λ c. search rules) returns)

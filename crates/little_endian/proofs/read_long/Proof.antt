@@ -6,12 +6,10 @@ use Rattle.little_endian.proofs.read_long.Tie as tie
 
 returns : tie.Need-returns
 returns c =
-    let low = c.before in
-    let a = low.before.before.args in
-    read_eight a.bytes.now a.at low.read_word.result c.read-word2.result low.read_word.ensures c.read-word2.ensures
+    let a = c.args in
+    read_eight a.bytes.now a.at c.read_word.result c.read_word-2.result c.read_word.ensures c.read_word-2.ensures
 
-pub read-long-spec : {M : Type 1} → statement M
-read-long-spec =
+pub read_long_spec : {M : Type 1} → statement M
+read_long_spec =
     tie.close
-    (tie.spec (λ c κs. search rules) (λ c. search rules) (λ c. search rules) (λ c κs. search rules) (λ c. search rules) (λ c. search rules)
-    (λ c. search rules) returns)
+    (tie.spec (λ c κs. search rules) (λ c. search rules) (λ c. search rules) (λ c κs. search rules) (λ c. search rules) (λ c. search rules) (λ c. search rules) returns)

@@ -10,39 +10,36 @@ use Rattle.little_endian.specs.Numbers.{little_endian}
 use Rattle.little_endian.proofs.write_number.Statement.{statement}
 use Rattle.little_endian.proofs.write_number.Tie as tie
 
-abbrev invariant-loop : tie.invariant-loop
+abbrev invariant-loop : tie.invariant-loop-i
 invariant-loop out₀ number rest₀ i₀ out rest i = (i ≤ length out₀) × Filled (length out₀) i (λ t. number / 256 ^ t % 256) out × (rest ≡ number / 256 ^ i)
 
-abbrev decreases-loop : tie.decreases-loop
+abbrev decreases-loop : tie.decreases-loop-i
 decreases-loop out₀ number rest₀ i₀ out rest i = length out₀ - i
 
-loop-holds : tie.Need-loop-init invariant-loop decreases-loop
+loop-holds : tie.Need-loop-i-init invariant-loop decreases-loop
 loop-holds c =
     let a = c.args in
     (omega arith, filled_none (length a.out.now) (λ t. a.number / 256 ^ t % 256) a.out.now refl, sym (div-one a.number))
 
-loop-again : tie.Need-loop-preserved invariant-loop decreases-loop
+loop-again : tie.Need-loop-i-preserved invariant-loop decreases-loop
 loop-again c =
-    let l = c.before.loop in
-    let s = c.before.before in (
+    let l = c.loop-i in (
       omega arith,
-      filled_more (length s.args.out.now) l.i (λ t. s.args.number / 256 ^ t % 256) l.out (l.rest % 256) l.invariant.1
+      filled_more (length c.args.out.now) l.i (λ t. c.args.number / 256 ^ t % 256) l.out (l.rest % 256) l.invariant.1
           (omega arith) (ap (λ (n : ℕ). n % 256) l.invariant.2),
-      next_digit s.args.number l.i l.rest l.invariant.2,
+      next_digit c.args.number l.i l.rest l.invariant.2,
     )
 
-same_length : tie.Need-same-length invariant-loop decreases-loop
-same_length c = c.before.loop.invariant.1.size
+same_length : tie.Need-shape_of-out invariant-loop decreases-loop
+same_length c = c.loop-i.invariant.1.size
 
 returns : tie.Need-returns invariant-loop decreases-loop
 unfolding little_endian
 returns c =
-    let l = c.before.loop in
-    let s = c.before.before in
-    filled_all (length s.args.out.now) l.i (λ t. s.args.number / 256 ^ t % 256) l.out l.invariant.1 (omega arith)
+    let l = c.loop-i in
+    filled_all (length c.args.out.now) l.i (λ t. c.args.number / 256 ^ t % 256) l.out l.invariant.1 (omega arith)
 
-pub write-number-spec : {M : Type 1} → statement M
-write-number-spec =
+pub write_number_spec : {M : Type 1} → statement M
+write_number_spec =
     tie.close
-    (tie.spec invariant-loop decreases-loop loop-holds (λ c. omega arith) (λ c. omega arith) (λ c. omega arith) (λ c. omega arith) loop-again
-    same_length returns)
+    (tie.spec invariant-loop decreases-loop loop-holds (λ c. omega arith) (λ c. omega arith) (λ c. omega arith) (λ c. omega arith) loop-again same_length returns)

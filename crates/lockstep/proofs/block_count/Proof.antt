@@ -8,17 +8,17 @@ use Rattle.laws.proofs.Chain.{blocks_split}
 use Rattle.lockstep.proofs.block_count.Statement.{statement}
 use Rattle.lockstep.proofs.block_count.Tie as tie
 
-returns : tie.Need-returns
+returns : tie.Need-returns-then-width-le256
 unfolding message_blocks
 returns c =
-    let p = c.before.args in
-    rw (le-leb p.width 256 c.if1.true) (sym (blocks_split small p.count))
+    let p = c.args in
+    rw (le-leb p.width 256 c.if-width-le256.true) (sym (blocks_split small p.count))
 
-returns-2 : tie.Need-returns-2
+returns-2 : tie.Need-returns-else-width-le256
 unfolding message_blocks
 returns-2 c =
-    let p = c.before.args in
-    rw (lt-leb p.width 256 c.if1.false) (sym (blocks_split large p.count))
+    let p = c.args in
+    rw (lt-leb p.width 256 c.if-width-le256.false) (sym (blocks_split large p.count))
 
-pub block-count-spec : {M : Type 1} → statement M
-block-count-spec = tie.close (tie.spec (λ c. search rules) (λ c. search rules) (λ c. search rules) (λ c. search rules) returns returns-2)
+pub block_count_spec : {M : Type 1} → statement M
+block_count_spec = tie.close (tie.spec (λ c. search rules) (λ c. search rules) (λ c. search rules) (λ c. search rules) returns returns-2)

@@ -14,51 +14,42 @@ use Rattle.lockstep.proofs.RunLaws.{none_less, one_less}
 use Rattle.lockstep.proofs.lead.Statement.{statement}
 use Rattle.lockstep.proofs.lead.Tie as tie
 
-abbrev invariant-loop : tie.invariant-loop
+abbrev invariant-loop : tie.invariant-loop-number
 invariant-loop width state₀ bytes count rest number₀ state number =
     (rest ≤ number) × (number ≤ message_blocks (family_of width) count)
     × (state ≡ padded 32 (state_at (family_of width) (start width) (message bytes count) number))
 
-abbrev decreases-loop : tie.decreases-loop
+abbrev decreases-loop : tie.decreases-loop-number
 decreases-loop width state₀ bytes count rest number₀ state number = number
 
-abbrev begin : tie.At-loop invariant-loop decreases-loop → tie.Start invariant-loop decreases-loop
-begin c = c.before.before.before
-
-loop-holds : tie.Need-loop-init invariant-loop decreases-loop
+loop-holds : tie.Need-loop-number-init invariant-loop decreases-loop
 loop-holds c =
-    let s = c.before.before in
-    let all = c.block-count.ensures in
-    (omega (arith, all, s.requires.3), omega (arith, all), none_less s.args.width s.requires.0 _ _ s.requires.2 all s.requires.1)
+    let all = c.block_count-number.ensures in
+    (omega (arith, all, c.requires.3), omega (arith, all), none_less c.args.width c.requires.0 _ _ c.requires.2 all c.requires.1)
 
-block-at-requires : tie.Need-block-at-requires invariant-loop decreases-loop
+block-at-requires : tie.Need-block_at-requires invariant-loop decreases-loop
 block-at-requires c κs =
-    let at = c.before.before in
-    ((begin at).requires.2, omega arith, at.loop.invariant.1)
+    (c.requires.2, omega arith, c.loop-number.invariant.1)
 
-absorb-block-requires : tie.Need-absorb-block-requires invariant-loop decreases-loop
-absorb-block-requires c κs = ap length c.before.before.before.loop.invariant.2 ∙ length_padded 32 _
+absorb-block-requires : tie.Need-absorb_block-requires invariant-loop decreases-loop
+absorb-block-requires c κs = ap length c.loop-number.invariant.2 ∙ length_padded 32 _
 
-loop-again : tie.Need-loop-preserved invariant-loop decreases-loop
+loop-again : tie.Need-loop-number-preserved invariant-loop decreases-loop
 loop-again c =
-    let at = c.before.before.before.before in
-    let s = begin at in
-    let inv = at.loop.invariant in (
+    let inv = c.loop-number.invariant in (
       omega arith,
       omega (arith, inv.1),
-      one_less s.args.width s.pre.0 _ _ s.pre.2 at.loop.number (omega arith) inv.1 inv.2 c.before.block_at.ensures
-          c.absorb-block.ensures,
+      one_less c.args.width c.requires.0 _ _ c.requires.2 c.loop-number.number (omega arith) inv.1 inv.2 c.block_at.ensures
+          c.absorb_block.ensures,
     )
 
 returns : tie.Need-returns invariant-loop decreases-loop
 returns c =
-    let at = c.before in
-    let p = (begin at).args in
-    let last : at.loop.number ≡ p.rest = omega arith in
-    at.loop.invariant.2 ∙ ap (λ k. padded 32 (state_at (family_of p.width) (start p.width) (message p.bytes.now p.count) k)) last
+    let p = c.args in
+    let last : c.loop-number.number ≡ p.rest = omega arith in
+    c.loop-number.invariant.2 ∙ ap (λ k. padded 32 (state_at (family_of p.width) (start p.width) (message p.bytes.now p.count) k)) last
 
-pub lead-spec : {M : Type 1} → statement M
-lead-spec =
+pub lead_spec : {M : Type 1} → statement M
+lead_spec =
     tie.close
-    (tie.spec invariant-loop decreases-loop (λ c κs. search rules) loop-holds block-at-requires absorb-block-requires (λ c. search rules) (λ c. search rules) loop-again
-    returns)
+    (tie.spec invariant-loop decreases-loop (λ c κs. search rules) loop-holds block-at-requires absorb-block-requires (λ c. search rules) (λ c. search rules) loop-again returns)

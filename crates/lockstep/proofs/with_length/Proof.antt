@@ -5,21 +5,20 @@ use Rattle.lockstep.proofs.NumberLaws.{length_same, length_other, states_other}
 use Rattle.lockstep.proofs.with_length.Statement.{statement}
 use Rattle.lockstep.proofs.with_length.Tie as tie
 
-returns : tie.Need-returns
+returns : tie.Need-returns-then-m-n
 returns c =
-    let test = c.before.before in
-    let p = test.before.before.before.args in
-    length_same p.t1 p.m p.t3 p.n p.met (sym test.same-words.ensures ∙ c.before.if1.true) c.if2.true
+    let p = c.args in
+    length_same p.s p.m p.t p.n p.met (sym c.same_words.ensures ∙ c.if-same_words.true) c.if-m-n.true
 
-returns-2 : tie.Need-returns-2
+returns-2 : tie.Need-returns-else-m-n
 returns-2 c =
-    let p = c.before.before.before.before.before.args in
-    length_other p.t1 p.m p.t3 p.n p.met c.if2.false
+    let p = c.args in
+    length_other p.s p.m p.t p.n p.met c.if-m-n.false
 
-returns-3 : tie.Need-returns-3
+returns-3 : tie.Need-returns-else-same_words
 returns-3 c =
-    let p = c.before.before.before.before.args in
-    states_other p.t1 p.m p.t3 p.n p.met (sym c.before.same-words.ensures ∙ c.if1.false)
+    let p = c.args in
+    states_other p.s p.m p.t p.n p.met (sym c.same_words.ensures ∙ c.if-same_words.false)
 
-pub with-length-spec : {M : Type 1} → statement M
-with-length-spec = tie.close (tie.spec (λ c. search rules) (λ c. search rules) (λ c κs. search rules) returns returns-2 returns-3)
+pub with_length_spec : {M : Type 1} → statement M
+with_length_spec = tie.close (tie.spec (λ c. search rules) (λ c. search rules) (λ c κs. search rules) returns returns-2 returns-3)

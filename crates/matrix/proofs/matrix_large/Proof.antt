@@ -8,12 +8,10 @@ use Rattle.matrix.proofs.matrix_large.Tie as tie
 
 returns : tie.Need-returns
 returns c =
-    let made = c.before.before.before.before.before.before in
-    let y = made.before.before.before.before.before.before.args.y.now in
-    matrix_of large (λ k. get_or y k 0) made.assemble.ensures c.rows-large.ensures
+    let y = c.args.y.now in
+    matrix_of large (λ k. get_or y k 0) c.assemble.ensures c.rows_large.ensures
 
-pub matrix-large-spec : {M : Type 1} → statement M
-matrix-large-spec =
+pub matrix_large_spec : {M : Type 1} → statement M
+matrix_large_spec =
     tie.close
-    (tie.spec (λ c. search rules) (λ c. search rules) (λ c. search rules) (λ c. search rules) (λ c κs. search rules)
-    (λ c. search rules) (λ c κs. search rules) returns)
+    (tie.spec (λ c. search rules) (λ c. search rules) (λ c. search rules) (λ c. search rules) (λ c κs. search rules) (λ c. search rules) (λ c κs. search rules) returns)

@@ -8,12 +8,10 @@ use Rattle.matrix.proofs.matrix_small.Tie as tie
 
 returns : tie.Need-returns
 returns c =
-    let made = c.before.before.before.before.before.before in
-    let y = made.before.before.before.before.before.before.args.y.now in
-    matrix_of small (λ k. get_or y k 0) made.assemble.ensures c.rows-small.ensures
+    let y = c.args.y.now in
+    matrix_of small (λ k. get_or y k 0) c.assemble.ensures c.rows_small.ensures
 
-pub matrix-small-spec : {M : Type 1} → statement M
-matrix-small-spec =
+pub matrix_small_spec : {M : Type 1} → statement M
+matrix_small_spec =
     tie.close
-    (tie.spec (λ c. search rules) (λ c. search rules) (λ c. search rules) (λ c. search rules) (λ c κs. search rules)
-    (λ c. search rules) (λ c κs. search rules) returns)
+    (tie.spec (λ c. search rules) (λ c. search rules) (λ c. search rules) (λ c. search rules) (λ c κs. search rules) (λ c. search rules) (λ c κs. search rules) returns)

@@ -9,22 +9,20 @@ use borrow.Author.Rules.{rules}
 use Rattle.matrix.proofs.rows_large.Statement.{statement}
 use Rattle.matrix.proofs.rows_large.Tie as tie
 
-abbrev invariant-loop : tie.invariant-loop
+abbrev invariant-loop : tie.invariant-loop-i
 invariant-loop words z₀ i₀ z i = (i ≤ 32) × Filled [] 32 (row 8 words) i z
 
-abbrev decreases-loop : tie.decreases-loop
+abbrev decreases-loop : tie.decreases-loop-i
 decreases-loop words z₀ i₀ z i = 32 - i
 
-loop-again : tie.Need-loop-preserved invariant-loop decreases-loop
+loop-again : tie.Need-loop-i-preserved invariant-loop decreases-loop
 loop-again c =
-    let at = c.before.before in
-    (search rules, filled_more at.loop.invariant.1 (search rules) (row_eight at.before.before.args.words.now at.loop.i c.row-large.ensures))
+    (search rules, filled_more c.loop-i.invariant.1 (search rules) (row_eight c.args.words.now c.loop-i.i c.row_large.ensures))
 
 returns : tie.Need-returns invariant-loop decreases-loop
-returns c = filled_all c.before.loop.invariant.1 (search rules)
+returns c = filled_all c.loop-i.invariant.1 (search rules)
 
-pub rows-large-spec : {M : Type 1} → statement M
-rows-large-spec =
+pub rows_large_spec : {M : Type 1} → statement M
+rows_large_spec =
     tie.close
-    (tie.spec invariant-loop decreases-loop (λ c. (search rules, filled_none refl)) (λ c κs. search rules) (λ c. search rules) (λ c. search rules) (λ c. search rules)
-    (λ c. search rules) loop-again returns)
+    (tie.spec invariant-loop decreases-loop (λ c. (search rules, filled_none refl)) (λ c κs. search rules) (λ c. search rules) (λ c. search rules) (λ c. search rules) (λ c. search rules) loop-again returns)

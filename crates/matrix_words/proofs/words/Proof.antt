@@ -6,24 +6,21 @@ use borrow.Author.Rules.{rules}
 use Rattle.matrix_words.proofs.words.Statement.{statement}
 use Rattle.matrix_words.proofs.words.Tie as tie
 
-abbrev invariant-loop : tie.invariant-loop
+abbrev invariant-loop : tie.invariant-loop-k
 invariant-loop codes n out₀ k₀ out k = (k ≤ n) × Filled 0 n (neighbours codes) k out
 
-abbrev decreases-loop : tie.decreases-loop
+abbrev decreases-loop : tie.decreases-loop-k
 decreases-loop codes n out₀ k₀ out k = n - k
 
-loop-again : tie.Need-loop-preserved invariant-loop decreases-loop
+loop-again : tie.Need-loop-k-preserved invariant-loop decreases-loop
 unfolding neighbours
 loop-again c =
-    let at = c.before.before.before.before in
-    (search rules, filled_more at.loop.invariant.1 (search rules) c.joined.ensures)
+    (search rules, filled_more c.loop-k.invariant.1 (search rules) c.joined.ensures)
 
 returns : tie.Need-returns invariant-loop decreases-loop
-returns c = filled_all c.before.loop.invariant.1 (search rules)
+returns c = filled_all c.loop-k.invariant.1 (search rules)
 
-pub words-spec : {M : Type 1} → statement M
-words-spec =
+pub words_spec : {M : Type 1} → statement M
+words_spec =
     tie.close
-    (tie.spec invariant-loop decreases-loop (λ c. (search rules, filled_none c.before.before.requires.1)) (λ c. search rules) (λ c. search rules)
-    (λ c. search rules) (λ c. search rules) (λ c. search rules) (λ c. search rules) (λ c κs. search rules) (λ c. search rules)
-    (λ c. search rules) (λ c. search rules) (λ c. search rules) loop-again (λ c. search rules) returns)
+    (tie.spec invariant-loop decreases-loop (λ c. (search rules, filled_none c.requires.1)) (λ c. search rules) (λ c. search rules) (λ c. search rules) (λ c. search rules) (λ c. search rules) (λ c. search rules) (λ c κs. search rules) (λ c. search rules) (λ c. search rules) (λ c. search rules) (λ c. search rules) loop-again (λ c. search rules) returns)

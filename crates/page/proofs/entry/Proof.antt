@@ -7,23 +7,21 @@ use Rattle.hash.proofs.Refusing.{written_refused, written_accepted}
 use Rattle.page.proofs.entry.Statement.{statement}
 use Rattle.page.proofs.entry.Tie as tie
 
-returns : tie.Need-returns
+returns : tie.Need-returns-then-refused-ne0
 returns c =
-    let refused = c.before.refusal in
-    (refused.ensures, sym (written_refused _ _ c.before.before.before.before.args.out.now (λ e. c.if1.true (refused.ensures ∙ e))))
+    let refused = c.refusal-refused in
+    (refused.ensures, sym (written_refused _ _ c.args.out.now (λ e. c.if-refused-ne0.true (refused.ensures ∙ e))))
 
 print-requires : tie.Need-print-requires
-print-requires c κs = sym c.before.before.refusal.ensures ∙ c.before.if1.false
+print-requires c κs = sym c.refusal-refused.ensures ∙ c.if-refused-ne0.false
 
-returns-2 : tie.Need-returns-2
+returns-2 : tie.Need-returns
 returns-2 c =
-    let p = c.before.before in
-    let e = p.before.before in
-    let a = e.before.before.before.before.args in
-    let none = sym e.if1.false ∙ e.before.refusal.ensures in
+    let a = c.args in
+    let none = sym c.if-refused-ne0.false ∙ c.refusal-refused.ensures in
     let lines = entry_lines a.number a.width a.digest.now in (
       none,
-      p.print.ensures ∙ rw zero-add (sym (written_accepted _ lines a.out.now (sym none))),
+      c.print.ensures ∙ rw zero-add (sym (written_accepted _ lines a.out.now (sym none))),
     )
 
 pub entry_spec : {M : Type 1} → statement M

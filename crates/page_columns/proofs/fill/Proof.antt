@@ -11,35 +11,33 @@ use Rattle.page_columns.proofs.Written.{fill_more}
 use Rattle.page_columns.proofs.fill.Statement.{statement}
 use Rattle.page_columns.proofs.fill.Tie as tie
 
-abbrev invariant-loop : tie.invariant-loop
+abbrev invariant-loop : tie.invariant-loop-i
 invariant-loop text₀ at count byte i₀ text i = (i ≤ count) × (length text ≡ length text₀) × (text ≡ over text₀ at (replicate i byte))
 
-abbrev decreases-loop : tie.decreases-loop
+abbrev decreases-loop : tie.decreases-loop-i
 decreases-loop text₀ at count byte i₀ text i = count - i
 
-loop-holds : tie.Need-loop-init invariant-loop decreases-loop
+loop-holds : tie.Need-loop-i-init invariant-loop decreases-loop
 loop-holds c = (search rules, refl, sym (over_nil c.args.text.now c.args.at))
 
-loop-again : tie.Need-loop-preserved invariant-loop decreases-loop
+loop-again : tie.Need-loop-i-preserved invariant-loop decreases-loop
 loop-again c =
-    let s = c.before.before in
-    let a = s.args in
-    let l = c.before.loop in (
+    let a = c.args in
+    let l = c.loop-i in (
       search rules,
       simp length-set l.invariant.1,
       ap (λ (t : List ℕ). set t (a.at + l.i) a.byte) l.invariant.2
-          ∙ fill_more a.text.now a.at l.i a.byte (omega (arith, s.requires, c.loop-test.true)),
+          ∙ fill_more a.text.now a.at l.i a.byte (omega (arith, c.requires, c.loop-i-test.true)),
     )
 
 returns : tie.Need-returns invariant-loop decreases-loop
 returns c =
-    let a = c.before.before.args in
-    let l = c.before.loop in
-    let all : l.i ≡ a.count = omega (arith, l.invariant.0, c.loop-test.false) in
+    let a = c.args in
+    let l = c.loop-i in
+    let all : l.i ≡ a.count = omega (arith, l.invariant.0, c.loop-i-test.false) in
     (l.invariant.2 ∙ ap (λ (k : ℕ). over a.text.now a.at (replicate k a.byte)) all, omega arith)
 
 pub fill_spec : {M : Type 1} → statement M
 fill_spec =
     tie.close
-    (tie.spec invariant-loop decreases-loop loop-holds (λ c. search rules) (λ c. search rules) (λ c. search rules) (λ c. search rules) loop-again
-    (λ c. search rules) (λ c. search rules) returns)
+    (tie.spec invariant-loop decreases-loop loop-holds (λ c. search rules) (λ c. search rules) (λ c. search rules) (λ c. search rules) loop-again (λ c. search rules) (λ c. search rules) returns)

@@ -5,29 +5,18 @@ use Rattle.page_lines.proofs.InTurn.{front_written}
 use Rattle.page_lines.proofs.front.Statement.{statement}
 use Rattle.page_lines.proofs.front.Tie as tie
 
-abbrev number-before : tie.After-number-arg2 → tie.After-number
-number-before c = c.before.before.before
+number-requires : tie.Need-number-next-requires
+number-requires c κs = (c.requires.0, omega (arith, c.requires.2))
 
-abbrev start : tie.After-number → tie.Start
-start c = c.before.before.before
-
-number-requires : tie.Need-number-requires
-number-requires c κs = let s = c.before.before in (s.requires.0, omega (arith, s.requires.2))
-
-number-requires-2 : tie.Need-number-requires-2
+number-requires-2 : tie.Need-number-requires
 number-requires-2 c κs =
-    let n = number-before c in
-    let s = start n in
-    (s.pre.1, omega (arith, s.pre.2, n.number.ensures.1, c.before))
+    (c.requires.1, omega (arith, c.requires.2, c.number-next.ensures.1, c.before))
 
 returns : tie.Need-returns
 returns c =
-    let two = c.before.before in
-    let one = number-before two.before in
-    let s = start one in
-    let a = s.args in
-    front_written a.text.now one.number.last.0 two.number2.new.0 a.number a.width one.number.result two.number2.result
-    s.pre.0 s.pre.1 s.pre.2 one.number.ensures.0 one.number.ensures.1 two.number2.ensures.0 two.number2.ensures.1
+    let a = c.args in
+    front_written a.text.now c.number-next.new.text c.number.new.text a.number a.width c.number-next.result c.number.result
+    c.requires.0 c.requires.1 c.requires.2 c.number-next.ensures.0 c.number-next.ensures.1 c.number.ensures.0 c.number.ensures.1
 
-pub front-spec : {M : Type 1} → statement M
-front-spec = tie.close (tie.spec number-requires number-requires-2 (λ c. search rules) returns)
+pub front_spec : {M : Type 1} → statement M
+front_spec = tie.close (tie.spec number-requires number-requires-2 (λ c. search rules) returns)

@@ -6,11 +6,11 @@ use Rattle.pairs.proofs.PairLaws.{unlike_states, unlike_blocks}
 use Rattle.pairs.proofs.unlike.Statement.{statement}
 use Rattle.pairs.proofs.unlike.Tie as tie
 
-returns : tie.Need-returns
-returns c = ap not c.same_bytes.ensures ∙ unlike_blocks _ _ _ _ (sym c.before.before.same-words.ensures ∙ c.before.if1.true)
+returns : tie.Need-returns-then-same_words
+returns c = ap not c.same_bytes.ensures ∙ unlike_blocks _ _ _ _ (sym c.same_words.ensures ∙ c.if-same_words.true)
 
-returns-2 : tie.Need-returns-2
-returns-2 c = unlike_states _ _ _ _ (sym c.before.same-words.ensures ∙ c.if1.false)
+returns-2 : tie.Need-returns-else-same_words
+returns-2 c = unlike_states _ _ _ _ (sym c.same_words.ensures ∙ c.if-same_words.false)
 
-pub unlike-spec : {M : Type 1} → statement M
-unlike-spec = tie.close (tie.spec (λ c κs. search rules) (λ c κs. search rules) returns returns-2)
+pub unlike_spec : {M : Type 1} → statement M
+unlike_spec = tie.close (tie.spec (λ c κs. search rules) (λ c κs. search rules) returns returns-2)

@@ -10,38 +10,32 @@ use Rattle.quote.proofs.Refusals.{unknown_width, other_length, room_short, room_
 use Rattle.quote.proofs.refusal.Statement.{statement}
 use Rattle.quote.proofs.refusal.Tie as tie
 
-abbrev start : tie.Else1 → tie.Start
-start c = c.before.before.before
+known : (c : tie.Else-not-is_width) → is_width c.args.width ≡ true
+known c = let test = c.is_width in sym test.ensures ∙ c.if-not-is_width.false
 
-known : (c : tie.Else1) → is_width (start c).args.width ≡ true
-known c = let test = c.before.is-width in sym test.ensures ∙ not-false test.result c.if1.false
+size : (c : tie.Else-digest-bytes) → let a = c.args in length a.digest.now ≡ digest_bytes a.width
+size c = omega (arith, c.if-digest-bytes.false, c.digest_bytes-bytes.ensures)
 
-size : (c : tie.Else2) → let a = (start c.before.before).args in length a.digest.now ≡ digest_bytes a.width
-size c = omega (arith, c.if2.false, c.before.digest-bytes.ensures)
-
-returns : tie.Need-returns
+returns : tie.Need-returns-then-not-is_width
 returns c =
-    let a = c.before.before.before.args in
-    let test = c.before.is-width in
-    unknown_width a.width a.digest.now a.room (sym test.ensures ∙ not-true test.result c.if1.true)
+    let a = c.args in
+    let test = c.is_width in
+    unknown_width a.width a.digest.now a.room (sym test.ensures ∙ c.if-not-is_width.true)
 
-returns-2 : tie.Need-returns-2
+returns-2 : tie.Need-returns-then-digest-bytes
 returns-2 c =
-    let e = c.before.before in
-    let a = (start e).args in
-    other_length a.width a.digest.now a.room (known e) (λ same. omega (arith, same, c.if2.true, c.before.digest-bytes.ensures))
+    let a = c.args in
+    other_length a.width a.digest.now a.room (known c.before.before) (λ same. omega (arith, same, c.if-digest-bytes.true, c.digest_bytes-bytes.ensures))
 
-returns-3 : tie.Need-returns-3
+returns-3 : tie.Need-returns-then-room-lt18
 returns-3 c =
-    let e = c.before.before.before in
-    let a = (start e).args in
-    room_short a.width a.digest.now a.room (known e) (size c.before) c.if3.true
+    let a = c.args in
+    room_short a.width a.digest.now a.room (known c.before.before.before) (size c.before) c.if-room-lt18.true
 
-returns-4 : tie.Need-returns-4
+returns-4 : tie.Need-returns
 returns-4 c =
-    let e = c.before.before.before in
-    let a = (start e).args in
-    room_enough a.width a.digest.now a.room (known e) (size c.before) c.if3.false
+    let a = c.args in
+    room_enough a.width a.digest.now a.room (known c.before.before.before) (size c.before) c.if-room-lt18.false
 
-pub refusal-spec : {M : Type 1} → statement M
-refusal-spec = tie.close (tie.spec (λ c κs. search rules) returns (λ c κs. search rules) returns-2 returns-3 returns-4)
+pub refusal_spec : {M : Type 1} → statement M
+refusal_spec = tie.close (tie.spec (λ c κs. search rules) returns (λ c κs. search rules) returns-2 returns-3 returns-4)

@@ -12,12 +12,12 @@ use Rattle.quote_text.proofs.check.Tie as tie
 returns : tie.Need-returns
 unfolding checkOf
 returns c =
-    let n = number c.before.before.args.digits.now in (
+    let n = number c.args.digits.now in (
       (λ i. 98 - 100 * c.remainder.ensures.0 i % 97)
           ∙ ap (λ v. 98 - v % 97) (sym (add-zero (100 * (n % 97))))
           ∙ ap (λ v. 98 - v) (times 100 n 0 0 (100 * n) (omega arith)),
       omega arith,
     )
 
-pub check-spec : {M : Type 1} → statement M
-check-spec = tie.close (tie.spec (λ c κs. search rules) (λ c. search rules) (λ c. search rules) returns)
+pub check_spec : {M : Type 1} → statement M
+check_spec = tie.close (tie.spec (λ c κs. search rules) (λ c. search rules) (λ c. search rules) returns)

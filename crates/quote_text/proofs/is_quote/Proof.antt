@@ -11,33 +11,30 @@ use Rattle.check_digits.specs.Quote.{digits_below, is_quote}
 use Rattle.quote_text.proofs.is_quote.Statement.{statement}
 use Rattle.quote_text.proofs.is_quote.Tie as tie
 
-returns : tie.Need-returns
+returns : tie.Need-returns-then-text-ne18
 unfolding is_quote
-returns c = rw (ne_eqb (length c.before.before.args.text.now) 18 c.if1.true) refl
+returns c = rw (ne_eqb (length c.args.text.now) 18 c.if-text-ne18.true) refl
 
-slice-aggregate-digits-below : tie.Need-slice-aggregate-digits-below
-slice-aggregate-digits-below c = sym (length-take-le 16 c.before.before.before.args.text.now (omega arith))
+slice-aggregate-digits-below : tie.Need-slice_bounds-digits_below-end
+slice-aggregate-digits-below c = sym (length-take-le 16 c.args.text.now (omega arith))
 
-returns-2 : tie.Need-returns-2
+returns-2 : tie.Need-returns-then-not-digits_below
 unfolding is_quote
 returns-2 c =
-    let e = c.before.before.before in
-    let text = e.before.before.args.text.now in
-    let first : digits_below 16 (take 16 text) ≡ false = sym c.before.digits-below.ensures ∙ not-true _ c.if2.true in
-    rw (eq-eqb (length text) 18 e.if1.false, first) refl
+    let text = c.args.text.now in
+    let first : digits_below 16 (take 16 text) ≡ false = sym c.digits_below.ensures ∙ c.if-not-digits_below.true in
+    rw (eq-eqb (length text) 18 c.if-text-ne18.false, first) refl
 
-returns-3 : tie.Need-returns-3
+returns-3 : tie.Need-returns
 unfolding is_quote
 returns-3 c =
-    let two = c.before.before in
-    let e = two.before.before.before in
-    let text = e.before.before.args.text.now in
-    let first : digits_below 16 (take 16 text) ≡ true = sym two.before.digits-below.ensures ∙ not-false _ two.if2.false in
+    let text = c.args.text.now in
+    let first : digits_below 16 (take 16 text) ≡ true = sym c.digits_below.ensures ∙ c.if-not-digits_below.false in
     let last = take_all (length text - 16) (drop 16 text) (omega (arith, length-drop 16 text)) in
-    rw (eq-eqb (length text) 18 e.if1.false, first) (c.digits-below2.ensures ∙ ap (digits_below 10) last)
+    rw (eq-eqb (length text) 18 c.if-text-ne18.false, first) (c.digits_below-2.ensures ∙ ap (digits_below 10) last)
 
-pub is-quote-spec : {M : Type 1} → statement M
-is-quote-spec =
+pub is_quote_spec : {M : Type 1} → statement M
+is_quote_spec =
     tie.close
     (tie.spec returns slice-aggregate-digits-below (λ c κs. search rules) returns-2 (λ c. search rules) (λ c. search rules) (λ c. search rules)
     (λ c κs. search rules) returns-3)

@@ -7,18 +7,15 @@ use Rattle.radix_8.proofs.Ends.{message_ends, length_ends}
 use Rattle.radix_8.proofs.append.Statement.{statement}
 use Rattle.radix_8.proofs.append.Tie as tie
 
-returns : tie.Need-returns
+returns : tie.Need-returns-then-last
 returns c =
-    let s = c.before in
-    rw c.if1.true (length_ends s.args.ends.now s.args.m s.requires)
+    rw c.if-last.true (length_ends c.args.ends.now c.args.m c.requires)
 
-returns-2 : tie.Need-returns-2
+returns-2 : tie.Need-returns-else-last
 returns-2 c =
-    let s = c.before in
-    rw c.if1.false (message_ends s.args.ends.now s.args.m s.requires)
+    rw c.if-last.false (message_ends c.args.ends.now c.args.m c.requires)
 
-pub append-spec : {M : Type 1} → statement M
-append-spec =
+pub append_spec : {M : Type 1} → statement M
+append_spec =
     tie.close
-    (tie.spec (λ c. search rules) (λ c. search rules) (λ c. search rules) (λ c. search rules) (λ c. search rules)
-    (λ c. simp length-set (omega arith)) (λ c. simp length-set refl) returns (λ c. simp length-set refl) returns-2)
+    (tie.spec (λ c. search rules) (λ c. search rules) (λ c. search rules) (λ c. search rules) (λ c. search rules) (λ c. simp length-set (omega arith)) (λ c. simp length-set refl) returns (λ c. simp length-set refl) returns-2)

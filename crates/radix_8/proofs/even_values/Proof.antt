@@ -10,8 +10,7 @@ returns c =
     let pre = c.requires in
     even_values a.a a.b a.c a.d (pre.0, pre.1, pre.2) pre.3
 
-pub even-values-spec : {M : Type 1} → statement M
-even-values-spec =
+pub even_values_spec : {M : Type 1} → statement M
+even_values_spec =
     tie.close
-    (tie.spec (λ c. search rules) (λ c. search rules) (λ c. search rules) (λ c. search rules) (λ c. search rules) (λ c. search rules)
-    (λ c. search rules) (λ c. search rules) (λ c. search rules) (λ c. search rules) (λ c. search rules) (λ c. search rules) returns)
+    (tie.spec (λ c. search rules) (λ c. search rules) (λ c. search rules) (λ c. search rules) (λ c. search rules) (λ c. search rules) (λ c. search rules) (λ c. search rules) (λ c. search rules) (λ c. search rules) (λ c. search rules) (λ c. search rules) returns)

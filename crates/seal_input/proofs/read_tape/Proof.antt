@@ -6,17 +6,17 @@ use lib.ListN.{length}
 use Rattle.seal_input.proofs.read_tape.Statement.{statement}
 use Rattle.seal_input.proofs.read_tape.Tie as tie
 
-abbrev invariant-loop : tie.invariant-loop
+abbrev invariant-loop : tie.invariant-loop-size
 invariant-loop tape₀ size₀ tape size = (length tape ≡ length tape₀) × (size ≤ length tape)
 
-abbrev decreases-loop : tie.decreases-loop
+abbrev decreases-loop : tie.decreases-loop-size
 decreases-loop tape₀ size₀ tape size = length tape - size
 
-loop-holds : tie.Need-loop-init invariant-loop decreases-loop
+loop-holds : tie.Need-loop-size-init invariant-loop decreases-loop
 loop-holds c = search rules
 
-pub read-tape-spec : {M : Type 1} → statement M
-read-tape-spec =
+pub read_tape_spec : {M : Type 1} → statement M
+read_tape_spec =
     tie.close
     (tie.spec invariant-loop decreases-loop loop-holds (λ c. search rules) (λ c. search rules) (λ c. search rules)
     (λ c κs. search rules) (λ c. search rules) (λ c. search rules) (λ c. search rules) (λ c. search rules) (λ c. search rules)

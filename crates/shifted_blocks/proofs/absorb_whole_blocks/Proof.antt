@@ -17,53 +17,39 @@ use Rattle.shifted_blocks.proofs.absorb_whole_blocks.Statement.{statement}
 use Rattle.shifted_blocks.proofs.absorb_whole_blocks.Tie as tie
 
 -- The places after each call, from the next one.
-abbrev start : tie.After-absorb-shifted → tie.Start
-start c = c.before.before.before.before.before
-
-abbrev absorbed-first : tie.After-blank → tie.After-absorb-shifted
-absorbed-first c = c.before.before
-
-abbrev blanked : tie.After-write-shifted → tie.After-blank
-blanked c = c.before.before.before.before.before
-
-absorb-shifted-requires : tie.Need-absorb-shifted-requires
-absorb-shifted-requires c κs =
-    let s = c.before.before.before.before in (
-      s.requires.0,
-      s.requires.1,
-      ap (λ (n : ℕ). n % block_bytes (family_of s.args.width)) (front_size s.args.whole s.args.src.now s.requires.3) ∙ s.requires.2,
-    )
+absorb-shifted-requires : tie.Need-absorb_shifted-last-requires
+absorb-shifted-requires c κs = (
+  c.requires.0,
+  c.requires.1,
+  ap (λ (n : ℕ). n % block_bytes (family_of c.args.width)) (front_size c.args.whole c.args.src.now c.requires.3) ∙ c.requires.2,
+)
 
 returns : tie.Need-returns
 returns c =
-    let b = blanked c.before.before in
-    let k = absorbed-first b in
-    let s = start k in
-    let a = s.args in
+    let a = c.args in
     let f = family_of a.width in
     let src = a.src.now in
     let words = take (state_words f) a.state.now in
-    let first = k.absorb-shifted in
-    let zeros = b.blank.ensures in
+    let first = c.absorb_shifted-last in
+    let zeros = c.blank.ensures in
     let front = ap (λ (n : ℕ). take n src) (sub-zero a.whole) in
     let carried =
     first.ensures.carried
     ∙ ap (λ (l : List ℕ). carry_at a.scale a.carry l (length l)) front
-    ∙ carry_take a.scale a.carry src a.whole s.pre.3 in
+    ∙ carry_take a.scale a.carry src a.whole c.requires.3 in
     let rest = back a.whole src in (
       first.ensures.came
           ∙ ap (λ (l : List ℕ). padded 32 (absorbed f words (table (length l) (shifted a.scale a.carry l)) (length l / block_bytes f))) front
-          ∙ (λ i. padded 32 (absorbed f words (shifted_take a.scale a.carry src a.whole s.pre.3 i)
-          (length-take-le a.whole src s.pre.3 i / block_bytes f))),
-      c.before.before.write-shifted.ensures
+          ∙ (λ i. padded 32 (absorbed f words (shifted_take a.scale a.carry src a.whole c.requires.3 i)
+          (length-take-le a.whole src c.requires.3 i / block_bytes f))),
+      c.write_shifted.ensures
           ∙ (λ i. table (length (zeros i)) (with_shifted (zeros i) 0 a.scale (carried i) (rest i)))
           ∙ ap (λ (n : ℕ). table n (with_shifted (table (length a.tail.now) (λ _. 0)) 0 a.scale
           (carry_at a.scale a.carry src a.whole) (drop a.whole src)))
           (length_table (length a.tail.now) (λ _. 0)),
     )
 
-pub absorb-whole-blocks-spec : {M : Type 1} → statement M
-absorb-whole-blocks-spec =
+pub absorb_whole_blocks_spec : {M : Type 1} → statement M
+absorb_whole_blocks_spec =
     tie.close
-    (tie.spec (λ c. search rules) (λ c. search rules) (λ c. search rules) absorb-shifted-requires (λ c κs. search rules)
-    (λ c. search rules) (λ c. search rules) (λ c. search rules) (λ c κs. search rules) (λ c. search rules) returns)
+    (tie.spec (λ c. search rules) (λ c. search rules) (λ c. search rules) absorb-shifted-requires (λ c κs. search rules) (λ c. search rules) (λ c. search rules) (λ c. search rules) (λ c κs. search rules) (λ c. search rules) returns)

@@ -7,7 +7,7 @@ use Rattle.simd_c_forms.proofs.open_form.Tie as tie
 
 returns : tie.Need-returns
 unfolding open_call opened_hash
-returns c = let call = c.before.before in stored_as call.before.before.«open».ensures _ _ _ call.store-opened.ensures
+returns c = stored_as c.open-opened.ensures _ _ _ c.store_opened.ensures
 
-pub open-form-spec : {M : Type 1} → statement M
-open-form-spec = tie.close (tie.spec (λ c κs. search rules) (λ c κs. search rules) (λ c. search rules) returns)
+pub open_form_spec : {M : Type 1} → statement M
+open_form_spec = tie.close (tie.spec (λ c κs. search rules) (λ c κs. search rules) (λ c. search rules) returns)

@@ -7,7 +7,7 @@ use Rattle.simd_c_forms.proofs.restore_form.Tie as tie
 
 returns : tie.Need-returns
 unfolding restore_call
-returns c = let call = c.before.before in stored_as call.before.before.restore.ensures _ _ _ call.store-opened.ensures
+returns c = stored_as c.restore-opened.ensures _ _ _ c.store_opened.ensures
 
-pub restore-form-spec : {M : Type 1} → statement M
-restore-form-spec = tie.close (tie.spec (λ c κs. search rules) (λ c κs. search rules) (λ c. search rules) returns)
+pub restore_form_spec : {M : Type 1} → statement M
+restore_form_spec = tie.close (tie.spec (λ c κs. search rules) (λ c κs. search rules) (λ c. search rules) returns)

@@ -15,55 +15,52 @@ use Rattle.simd_c_forms.proofs.take_form.Statement.{statement}
 use Rattle.simd_c_forms.proofs.take_form.Tie as tie
 
 -- What is known once the form is read.
-module _ (r : tie.After-restore) where
-  abbrev start : tie.Start
-  start = r.before.before.before
-
+module _ (r : tie.After-restore-opened) where
   abbrev out : List ℕ
-  out = start.args.out.now
+  out = r.args.out.now
 
   abbrev hash : Hash
-  hash = (restore_answer start.args.form.now).hash
+  hash = (restore_answer r.args.form.now).hash
 
   abbrev refusal : Hash → ℕ
   refusal h = (take_answer h out).refusal
 
-  answer : r.restore.result.refusal ≡ (restore_answer start.args.form.now).refusal
-  answer = ap (λ (o : Opened). o.refusal) r.restore.ensures
+  answer : r.restore-opened.result.refusal ≡ (restore_answer r.args.form.now).refusal
+  answer = ap (λ (o : Opened). o.refusal) r.restore-opened.ensures
 
-abbrev read : tie.After-take → tie.Else1
-read c = c.before.before.before
+abbrev read : tie.After-take-taken → tie.After-restore-opened
+read c = c.before.before.before.before
 
-writes : (c : tie.After-take) → let r = (read c).before in
-    Writes (refusal r) digest_of (out r) (hash r) (answer r) c.take.result.refusal c.take.new.1.0
+writes : (c : tie.After-take-taken) → let r = read c in
+    Writes (refusal r) digest_of (out r) (hash r) (answer r) c.take-taken.result.refusal c.take-taken.new.out
 writes c =
-    let r = (read c).before in
-    then_written (refusal r) digest_of (out r) (hash r) (answer r) (read c).if1.false (ap (λ (o : Opened). o.hash) r.restore.ensures)
-    (ap (λ (t : Taken). t.refusal) c.take.ensures.0)
-    (c.take.ensures.1 ∙ ap (λ (n : ℕ). written n (digest_of r.restore.result.hash) (out r)) (sym (answered_refusal _ (out r))))
+    let r = read c in
+    then_written (refusal r) digest_of (out r) (hash r) (answer r) c.if-refusal-ne0.false (ap (λ (o : Opened). o.hash) c.restore-opened.ensures)
+    (ap (λ (t : Taken). t.refusal) c.take-taken.ensures.0)
+    (c.take-taken.ensures.1 ∙ ap (λ (n : ℕ). written n (digest_of c.restore-opened.result.hash) (out r)) (sym (answered_refusal _ (out r))))
 
-returns : tie.Need-returns
+returns : tie.Need-returns-then-refusal-ne0
 unfolding take_call
 returns c =
     let r = c.before in
-    number_kept (refusal r) digest_of (out r) (hash r) (answer r) _ (start r).args.blocks.now
-    (step_refused (refusal r) digest_of (out r) (hash r) (answer r) c.if1.true) c.if1.true
+    number_kept (refusal r) digest_of (out r) (hash r) (answer r) _ c.args.blocks.now
+    (step_refused (refusal r) digest_of (out r) (hash r) (answer r) c.if-refusal-ne0.true) c.if-refusal-ne0.true
 
-returns-2 : tie.Need-returns-2
+returns-2 : tie.Need-returns-then-refused-ne0
 unfolding take_call
 returns-2 c =
     let t = c.before.before.before in
-    let r = (read t).before in
-    number_kept (refusal r) digest_of (out r) (hash r) (answer r) _ (start r).args.blocks.now (writes t) c.if2.true
+    let r = read t in
+    number_kept (refusal r) digest_of (out r) (hash r) (answer r) _ c.args.blocks.now (writes t) c.if-refused-ne0.true
 
-returns-3 : tie.Need-returns-3
+returns-3 : tie.Need-returns
 unfolding take_call
 returns-3 c =
     let t = c.before.before.before in
-    let r = (read t).before in
-    number_put (refusal r) digest_of (out r) (hash r) (answer r) _ (start r).args.blocks.now (writes t) c.if2.false
-    (ap (λ (t : Taken). t.blocks) t.take.ensures.0 ∙ ap (λ (o : Opened). (take_answer o.hash (out r)).blocks) r.restore.ensures)
+    let r = read t in
+    number_put (refusal r) digest_of (out r) (hash r) (answer r) _ c.args.blocks.now (writes t) c.if-refused-ne0.false
+    (ap (λ (t : Taken). t.blocks) c.take-taken.ensures.0 ∙ ap (λ (o : Opened). (take_answer o.hash (out r)).blocks) c.restore-opened.ensures)
 
-pub take-form-spec : {M : Type 1} → statement M
-take-form-spec =
+pub take_form_spec : {M : Type 1} → statement M
+take_form_spec =
     tie.close (tie.spec (λ c κs. search rules) returns (λ c κs. search rules) (λ c. search rules) returns-2 (λ c. search rules) returns-3)

@@ -15,74 +15,65 @@ use Rattle.simd_c_hmac.proofs.feed_form.Statement.{statement}
 use Rattle.simd_c_hmac.proofs.feed_form.Tie as tie
 
 -- What is known once the form is read.
-module _ (r : tie.After-restore) where
-  abbrev start : tie.Start
-  start = r.before.before.before.before
-
+module _ (r : tie.After-restore-opened) where
   abbrev form : List ℕ
-  form = start.args.form.now
+  form = r.args.form.now
 
   abbrev old : ℕ
-  old = start.args.blocks.now
+  old = r.args.blocks.now
 
   abbrev refusal : Hmac → ℕ
   refusal h = store_refusal h form
 
   -- What the definition feeds.
   abbrev next : Fed
-  next = fed_from form start.args.piece.now start.args.bits
+  next = fed_from form r.args.piece.now r.args.bits
 
-  answer : r.restore.result.refusal ≡ (restore_answer form).refusal
-  answer = ap (λ (o : Opened). o.refusal) r.restore.ensures
+  answer : r.restore-opened.result.refusal ≡ (restore_answer form).refusal
+  answer = ap (λ (o : Opened). o.refusal) r.restore-opened.ensures
 
-abbrev read : tie.After-feed → tie.Else1
-read c = c.before.before
+abbrev read : tie.After-feed-fed → tie.After-restore-opened
+read c = c.before.before.before
 
-fed : (c : tie.After-feed) → c.feed.result ≡ next (read c).before
+fed : (c : tie.After-feed-fed) → c.feed-fed.result ≡ next (read c)
 unfolding fed_from
 fed c =
-    let r = (read c).before in
-    let a = (start r).args in
-    c.feed.ensures ∙ ap (λ (o : Opened). feed_answer o.hmac a.piece.now a.bits) r.restore.ensures
+    c.feed-fed.ensures ∙ ap (λ (o : Opened). feed_answer o.hmac c.args.piece.now c.args.bits) c.restore-opened.ensures
 
-returns : tie.Need-returns
+returns : tie.Need-returns-then-refusal-ne0
 unfolding feed_call store_answer
 returns c =
     let r = c.before in
-    first_refuses (refusal r) keyed_form (form r) (next r).hmac (next r).blocks (old r) (next r).refusal (answer r) c.if1.true
+    first_refuses (refusal r) keyed_form (form r) (next r).hmac (next r).blocks (old r) (next r).refusal (answer r) c.if-refusal-ne0.true
 
-returns-2 : tie.Need-returns-2
+returns-2 : tie.Need-returns-then-refused-ne0
 unfolding feed_call store_answer
 returns-2 c =
     let f = c.before in
-    let r = (read f).before in
-    second_refuses (refusal r) keyed_form (form r) (next r).hmac (next r).blocks (old r) (next r).refusal (answer r) (read f).if1.false
-    (ap (λ (a : Fed). a.refusal) (fed f)) c.if2.true
+    let r = read f in
+    second_refuses (refusal r) keyed_form (form r) (next r).hmac (next r).blocks (old r) (next r).refusal (answer r) c.if-refusal-ne0.false
+    (ap (λ (a : Fed). a.refusal) (fed f)) c.if-refused-ne0.true
 
-returns-3 : tie.Need-returns-3
+returns-3 : tie.Need-returns-then-full-ne0
 unfolding feed_call store_answer
 returns-3 c =
-    let s = c.before.before.before in
-    let e = s.before.before.before in
-    let f = e.before in
-    let r = (read f).before in
-    no_room (refusal r) keyed_form (form r) (next r).hmac (next r).blocks (old r) (next r).refusal (answer r) (read f).if1.false
-    (ap (λ (a : Fed). a.refusal) (fed f)) e.if2.false (ap (λ (a : Fed). a.hmac) (fed f)) (ap (λ (a : Stored). a.refusal) s.store.ensures.0)
-    s.store.ensures.1 c.if3.true
+    let f = c.before.before.before.before.before.before.before in
+    let r = read f in
+    no_room (refusal r) keyed_form (form r) (next r).hmac (next r).blocks (old r) (next r).refusal (answer r) c.if-refusal-ne0.false
+    (ap (λ (a : Fed). a.refusal) (fed f)) c.if-refused-ne0.false (ap (λ (a : Fed). a.hmac) (fed f)) (ap (λ (a : Stored). a.refusal) c.store-full.ensures.0)
+    c.store-full.ensures.1 c.if-full-ne0.true
 
-returns-4 : tie.Need-returns-4
+returns-4 : tie.Need-returns
 unfolding feed_call store_answer
 returns-4 c =
-    let s = c.before.before.before in
-    let e = s.before.before.before in
-    let f = e.before in
-    let r = (read f).before in
-    all_done (refusal r) keyed_form (form r) (next r).hmac (next r).blocks (old r) (next r).refusal (answer r) (read f).if1.false
-    (ap (λ (a : Fed). a.refusal) (fed f)) e.if2.false (ap (λ (a : Fed). a.hmac) (fed f)) (ap (λ (a : Stored). a.refusal) s.store.ensures.0)
-    s.store.ensures.1 c.if3.false (ap (λ (a : Fed). a.blocks) (fed f))
+    let f = c.before.before.before.before.before.before.before in
+    let r = read f in
+    all_done (refusal r) keyed_form (form r) (next r).hmac (next r).blocks (old r) (next r).refusal (answer r) c.if-refusal-ne0.false
+    (ap (λ (a : Fed). a.refusal) (fed f)) c.if-refused-ne0.false (ap (λ (a : Fed). a.hmac) (fed f)) (ap (λ (a : Stored). a.refusal) c.store-full.ensures.0)
+    c.store-full.ensures.1 c.if-full-ne0.false (ap (λ (a : Fed). a.blocks) (fed f))
 
-pub feed-form-spec : {M : Type 1} → statement M
-feed-form-spec =
+pub feed_form_spec : {M : Type 1} → statement M
+feed_form_spec =
     tie.close
     (tie.spec (λ c κs. search rules) (λ c. search rules) returns (λ c κs. search rules) (λ c. search rules) returns-2 (λ c κs. search rules) (λ c. search rules)
     returns-3 (λ c. search rules) returns-4)

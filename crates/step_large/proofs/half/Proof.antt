@@ -11,14 +11,11 @@ use Rattle.step_large.proofs.half.Tie as tie
 returns : tie.Need-returns
 unfolding table
 returns c =
-    let two = c.before.before.before.before.before.before in
-    let one = two.before.before.before in
-    let p = one.before.before.before.args in
-    let first = one.row.ensures ∙ ap (word_a large p.i p.s p.x p.w.now p.t3 p.t1) (sym (add-zero p.o)) in
-    λ t. first t ∷ two.row2.ensures t ∷ c.before.before.before.row3.ensures t ∷ c.row4.ensures t ∷ []
+    let p = c.args in
+    let first = c.row.ensures ∙ ap (word_a large p.i p.s p.x p.w.now p.b p.st) (sym (add-zero p.o)) in
+    λ t. first t ∷ c.row-2.ensures t ∷ c.row-3.ensures t ∷ c.row-4.ensures t ∷ []
 
 pub half_spec : {M : Type 1} → statement M
 half_spec =
     tie.close
-    (tie.spec (λ c κs. search rules) (λ c. search rules) (λ c κs. search rules) (λ c. search rules) (λ c κs. search rules) (λ c. search rules)
-    (λ c κs. search rules) returns)
+    (tie.spec (λ c κs. search rules) (λ c. search rules) (λ c κs. search rules) (λ c. search rules) (λ c κs. search rules) (λ c. search rules) (λ c κs. search rules) returns)

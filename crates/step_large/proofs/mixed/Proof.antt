@@ -9,13 +9,11 @@ use Rattle.step_large.proofs.mixed.Tie as tie
 
 returns : tie.Need-returns
 returns c =
-    let read = c.before.before.before in
-    let start = read.before.before in
-    let p = start.args in
-    let s-is = read.before.rotation.ensures.0 ∙ next_rotation p.i in
-    stepped_parts large p.i p.w.now p.t1 start.requires s-is read.large-exchange.ensures c.before.before.new_a_lem.ensures
+    let p = c.args in
+    let s-is = c.rotation.ensures.0 ∙ next_rotation p.i in
+    stepped_parts large p.i p.w.now p.st c.requires s-is c.large_exchange.ensures c.new_a-a.ensures
 
-pub mixed-spec : {M : Type 1} → statement M
-mixed-spec =
+pub mixed_spec : {M : Type 1} → statement M
+mixed_spec =
     tie.close
     (tie.spec (λ c. search rules) (λ c κs. search rules) (λ c κs. search rules) (λ c κs. search rules) (λ c. search rules) (λ c. search rules) returns)

@@ -9,11 +9,10 @@ use Rattle.step_large.proofs.new_a.Tie as tie
 returns : tie.Need-returns
 unfolding new_a
 returns c =
-    let p = c.before.before.args in
-    halves (word_a large p.i p.s p.x p.w.now p.b p.st) c.before.half.ensures c.half2.ensures
+    let p = c.args in
+    halves (word_a large p.i p.s p.x p.w.now p.b p.st) c.half-l.ensures c.half-h.ensures
 
-pub new-a-spec : {M : Type 1} → statement M
-new-a-spec =
+pub new_a_spec : {M : Type 1} → statement M
+new_a_spec =
     tie.close
-    (tie.spec (λ c κs. search rules) (λ c κs. search rules) (λ c. search rules) (λ c. search rules) (λ c. search rules) (λ c. search rules)
-    (λ c. search rules) (λ c. search rules) (λ c. search rules) (λ c. search rules) returns)
+    (tie.spec (λ c κs. search rules) (λ c κs. search rules) (λ c. search rules) (λ c. search rules) (λ c. search rules) (λ c. search rules) (λ c. search rules) (λ c. search rules) (λ c. search rules) (λ c. search rules) returns)

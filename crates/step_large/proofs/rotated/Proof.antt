@@ -9,14 +9,11 @@ use Rattle.step_large.proofs.rotated.Tie as tie
 returns : tie.Need-returns
 unfolding new_b table
 returns c =
-    let low = c.before.before.before.before in
     λ t.
-    low.before.before.before.turn.ensures t ∷ low.before.before.turn2.ensures t ∷ low.before.turn3.ensures t ∷ low.turn4.ensures t ∷
-    c.before.before.before.turn5.ensures t ∷ c.before.before.turn6.ensures t ∷ c.before.turn7.ensures t ∷ c.turn8.ensures t ∷ []
+    c.turn.ensures t ∷ c.turn-2.ensures t ∷ c.turn-3.ensures t ∷ c.turn-4.ensures t ∷
+    c.turn-5.ensures t ∷ c.turn-6.ensures t ∷ c.turn-7.ensures t ∷ c.turn-8.ensures t ∷ []
 
-pub rotated-spec : {M : Type 1} → statement M
-rotated-spec =
+pub rotated_spec : {M : Type 1} → statement M
+rotated_spec =
     tie.close
-    (tie.spec (λ c. search rules) (λ c κs. search rules) (λ c. search rules) (λ c κs. search rules) (λ c. search rules) (λ c κs. search rules)
-    (λ c. search rules) (λ c κs. search rules) (λ c. search rules) (λ c κs. search rules) (λ c. search rules) (λ c κs. search rules)
-    (λ c. search rules) (λ c κs. search rules) (λ c. search rules) (λ c κs. search rules) returns)
+    (tie.spec (λ c. search rules) (λ c κs. search rules) (λ c. search rules) (λ c κs. search rules) (λ c. search rules) (λ c κs. search rules) (λ c. search rules) (λ c κs. search rules) (λ c. search rules) (λ c κs. search rules) (λ c. search rules) (λ c κs. search rules) (λ c. search rules) (λ c κs. search rules) (λ c. search rules) (λ c κs. search rules) returns)

@@ -9,15 +9,11 @@ use Rattle.step_large.proofs.row.Tie as tie
 
 returns : tie.Need-returns
 returns c =
-    let sum = c.before.step_sum in
-    let read = c.before.before.before.before.before.before in
-    let first = read.before.before in
-    let p = first.before.args in
-    c.rotated-plus.ensures ∙ (λ t. add (rotl (p.s % 32) (sum.ensures t)) (get_or p.b.now (first.partner.ensures.0 t) 0))
+    let sum = c.step_sum in
+    let p = c.args in
+    c.rotated_plus.ensures ∙ (λ t. add (rotl (p.s % 32) (sum.ensures t)) (get_or p.b.now (c.partner-y.ensures.0 t) 0))
 
-pub row-spec : {M : Type 1} → statement M
-row-spec =
+pub row_spec : {M : Type 1} → statement M
+row_spec =
     tie.close
-    (tie.spec (λ c κs. search rules) (λ c. search rules) (λ c. search rules) (λ c. search rules) (λ c. search rules) (λ c. search rules)
-    (λ c. search rules) (λ c. search rules) (λ c. search rules) (λ c. search rules) (λ c. search rules) (λ c. search rules) (λ c. search rules)
-    (λ c. search rules) (λ c. search rules) (λ c. search rules) (λ c. search rules) (λ c κs. search rules) (λ c κs. search rules) returns)
+    (tie.spec (λ c κs. search rules) (λ c. search rules) (λ c. search rules) (λ c. search rules) (λ c. search rules) (λ c. search rules) (λ c. search rules) (λ c. search rules) (λ c. search rules) (λ c. search rules) (λ c. search rules) (λ c. search rules) (λ c. search rules) (λ c. search rules) (λ c. search rules) (λ c. search rules) (λ c. search rules) (λ c κs. search rules) (λ c κs. search rules) returns)

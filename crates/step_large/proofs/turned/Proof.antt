@@ -10,10 +10,9 @@ use Rattle.step_large.proofs.turned.Tie as tie
 
 returns : tie.Need-returns
 returns c =
-    let read = c.before.before.before in
-    c.rotated.ensures ∙ ap (λ r. new_b large r (get_or read.before.args.t1 0 [])) read.rotation.ensures.0
+    c.rotated.ensures ∙ ap (λ r. new_b large r (get_or c.args.st 0 [])) c.rotation-r.ensures.0
 
-pub turned-spec : {M : Type 1} → statement M
-turned-spec =
+pub turned_spec : {M : Type 1} → statement M
+turned_spec =
     tie.close
     (tie.spec (λ c κs. search rules) (λ c. search rules) (λ c κs. search rules) (λ c. search rules) (λ c. search rules) (λ c κs. search rules) returns)

@@ -9,8 +9,8 @@ use Rattle.step_numbers.proofs.large_exchange.Tie as tie
 
 returns : tie.Need-returns
 unfolding exchange
-returns c = ap (λ e. get_or e (c.before.args.i % 7) 0) c.large-exchanges.ensures
+returns c = ap (λ e. get_or e (c.args.i % 7) 0) c.large_exchanges-e.ensures
 
-pub large-exchange-spec : {M : Type 1} → statement M
-large-exchange-spec =
+pub large_exchange_spec : {M : Type 1} → statement M
+large_exchange_spec =
     tie.close (tie.spec (λ c κs. search rules) (λ c. search rules) (λ c. search rules) returns)

@@ -6,8 +6,8 @@ use Rattle.step_numbers.proofs.numbers.Statement.{statement}
 use Rattle.step_numbers.proofs.numbers.Tie as tie
 
 returns : tie.Need-returns
-returns c = (c.before.before.rotation.ensures.0, (c.before.rotation2.ensures.0 ∙ next_rotation _, c.small-exchange.ensures))
+returns c = (c.rotation.ensures.0, (c.rotation-2.ensures.0 ∙ next_rotation _, c.small_exchange.ensures))
 
-pub numbers-spec : {M : Type 1} → statement M
-numbers-spec =
+pub numbers_spec : {M : Type 1} → statement M
+numbers_spec =
     tie.close (tie.spec (λ c κs. search rules) (λ c. search rules) (λ c κs. search rules) (λ c κs. search rules) returns)

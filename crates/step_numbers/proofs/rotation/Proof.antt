@@ -6,10 +6,9 @@ use Rattle.step_numbers.proofs.rotation.Tie as tie
 
 returns : tie.Need-returns
 returns c =
-    let table = c.before.before in
-    rotation_read table.before.args.i table.before.args.k table.rotations.ensures c.before.round-of.ensures.0
+    rotation_read c.args.i c.args.k c.rotations-q.ensures c.round_of.ensures.0
 
-pub rotation-spec : {M : Type 1} → statement M
-rotation-spec =
+pub rotation_spec : {M : Type 1} → statement M
+rotation_spec =
     tie.close
     (tie.spec (λ c κs. search rules) (λ c κs. search rules) (λ c. search rules) (λ c. search rules) (λ c. search rules) (λ c. search rules) returns)

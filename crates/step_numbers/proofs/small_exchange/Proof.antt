@@ -9,8 +9,8 @@ use Rattle.step_numbers.proofs.small_exchange.Tie as tie
 
 returns : tie.Need-returns
 unfolding exchange
-returns c = ap (λ e. get_or e (c.before.args.i % 3) 0) c.small-exchanges.ensures
+returns c = ap (λ e. get_or e (c.args.i % 3) 0) c.small_exchanges-e.ensures
 
-pub small-exchange-spec : {M : Type 1} → statement M
-small-exchange-spec =
+pub small_exchange_spec : {M : Type 1} → statement M
+small_exchange_spec =
     tie.close (tie.spec (λ c κs. search rules) (λ c. search rules) (λ c. search rules) returns)

@@ -9,8 +9,8 @@ use Rattle.step_small.proofs.new_a.Tie as tie
 returns : tie.Need-returns
 unfolding new_a table
 returns c =
-    λ t. c.before.before.before.row.ensures t ∷ c.before.before.row2.ensures t ∷ c.before.row3.ensures t ∷ c.row4.ensures t ∷ []
+    λ t. c.row.ensures t ∷ c.row-2.ensures t ∷ c.row-3.ensures t ∷ c.row-4.ensures t ∷ []
 
-pub new-a-spec : {M : Type 1} → statement M
-new-a-spec =
+pub new_a_spec : {M : Type 1} → statement M
+new_a_spec =
     tie.close (tie.spec (λ c κs. search rules) (λ c κs. search rules) (λ c κs. search rules) (λ c κs. search rules) returns)

@@ -9,10 +9,9 @@ use Rattle.step_small.proofs.rotated.Tie as tie
 returns : tie.Need-returns
 unfolding new_b table
 returns c =
-    λ t. c.before.before.before.turn.ensures t ∷ c.before.before.turn2.ensures t ∷ c.before.turn3.ensures t ∷ c.turn4.ensures t ∷ []
+    λ t. c.turn.ensures t ∷ c.turn-2.ensures t ∷ c.turn-3.ensures t ∷ c.turn-4.ensures t ∷ []
 
-pub rotated-spec : {M : Type 1} → statement M
-rotated-spec =
+pub rotated_spec : {M : Type 1} → statement M
+rotated_spec =
     tie.close
-    (tie.spec (λ c. search rules) (λ c κs. search rules) (λ c. search rules) (λ c κs. search rules) (λ c. search rules) (λ c κs. search rules)
-    (λ c. search rules) (λ c κs. search rules) returns)
+    (tie.spec (λ c. search rules) (λ c κs. search rules) (λ c. search rules) (λ c κs. search rules) (λ c. search rules) (λ c κs. search rules) (λ c. search rules) (λ c κs. search rules) returns)

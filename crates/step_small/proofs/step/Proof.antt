@@ -11,11 +11,9 @@ use Rattle.step_small.proofs.step.Tie as tie
 
 returns : tie.Need-returns
 returns c =
-    let made = c.before.before.before.before.before in
-    let start = made.before.before.before in
-    let p = start.args in
-    let b-is = made.turned.ensures ∙ ap (λ r. new_b small r (get_or p.t1 0 [])) start.requires.0 in
-    stepped_parts small p.i p.w.now p.t1 b-is start.requires.1.0 start.requires.1.1 c.before.before.new_a_lem.ensures
+    let p = c.args in
+    let b-is = c.turned-b.ensures ∙ ap (λ r. new_b small r (get_or p.st 0 [])) c.requires.0 in
+    stepped_parts small p.i p.w.now p.st b-is c.requires.1.0 c.requires.1.1 c.new_a-a.ensures
 
 pub step_spec : {M : Type 1} → statement M
 step_spec =

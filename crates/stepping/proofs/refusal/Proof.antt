@@ -8,27 +8,25 @@ use Rattle.stepping.proofs.Calls.{unknown, known}
 use Rattle.stepping.proofs.refusal.Statement.{statement}
 use Rattle.stepping.proofs.refusal.Tie as tie
 
-returns : tie.Need-returns
+returns : tie.Need-returns-then-not-known
 returns c =
-    let a = c.before.before.args in
-    sym (unknown a.width a.state a.block a.room (sym c.before.is-width.ensures ∙ not-true c.before.is-width.result c.if1.true))
+    let a = c.args in
+    sym (unknown a.width a.state a.block a.room (sym c.is_width-known.ensures ∙ c.if-not-known.true))
 
-returns-2 : tie.Need-returns-2
+returns-2 : tie.Need-returns-then-width-le256
 returns-2 c =
-    let start = c.before.before.before.before in
-    let width = c.before.before.before.is-width in
-    c.size-refusal.ensures
-    ∙ sym (known start.args.width start.args.state start.args.block start.args.room small
-    (sym width.ensures ∙ not-false width.result c.before.before.if1.false) (family_small start.args.width c.before.if2.true))
+    let width = c.is_width-known in
+    c.size_refusal.ensures
+    ∙ sym (known c.args.width c.args.state c.args.block c.args.room small
+    (sym width.ensures ∙ c.if-not-known.false) (family_small c.args.width c.if-width-le256.true))
 
-returns-3 : tie.Need-returns-3
+returns-3 : tie.Need-returns
 returns-3 c =
-    let start = c.before.before.before.before in
-    let width = c.before.before.before.is-width in
-    c.size-refusal2.ensures
-    ∙ sym (known start.args.width start.args.state start.args.block start.args.room large
-    (sym width.ensures ∙ not-false width.result c.before.before.if1.false) (family_large start.args.width c.before.if2.false))
+    let width = c.is_width-known in
+    c.size_refusal-2.ensures
+    ∙ sym (known c.args.width c.args.state c.args.block c.args.room large
+    (sym width.ensures ∙ c.if-not-known.false) (family_large c.args.width c.if-width-le256.false))
 
-pub refusal-spec : {M : Type 1} → statement M
-refusal-spec =
+pub refusal_spec : {M : Type 1} → statement M
+refusal_spec =
     tie.close (tie.spec (λ c κs. search rules) returns (λ c κs. search rules) returns-2 (λ c κs. search rules) returns-3)

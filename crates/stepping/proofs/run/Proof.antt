@@ -12,54 +12,44 @@ use Rattle.stepping.proofs.Calls.{sizes, refused, accepted}
 use Rattle.stepping.proofs.run.Statement.{statement}
 use Rattle.stepping.proofs.run.Tie as tie
 
-returns : tie.Need-returns
+returns : tie.Need-returns-then-refused-ne0
 returns c =
-    let a = c.before.before.before.before.before.args in
-    refused (moved a.back) a.width a.last a.state.now a.block.now a.out.now c.before.refusal.ensures c.if1.true
+    let a = c.args in
+    refused (moved a.back) a.width a.last a.state.now a.block.now a.out.now c.refusal-refused.ensures c.if-refused-ne0.true
 
-abbrev start : tie.Else1 → tie.Start
-start e = e.before.before.before.before.before
-
--- Where nothing is refused, all have the family's size.
-fits : (e : tie.Else1) (f : Family) → let a = (start e).args in family_of a.width ≡ f
+fits : (e : tie.Else-refused-ne0) (f : Family) → let a = e.args in family_of a.width ≡ f
     → (length a.state.now ≡ block_bytes f) × ((length a.block.now ≡ block_bytes f) × (block_bytes f ≤ length a.out.now))
 fits e f is =
-    let a = (start e).args in
-    sizes a.width (length a.state.now) (length a.block.now) (length a.out.now) f is (sym e.before.refusal.ensures ∙ e.if1.false)
+    let a = e.args in
+    sizes a.width (length a.state.now) (length a.block.now) (length a.out.now) f is (sym e.refusal-refused.ensures ∙ e.if-refused-ne0.false)
 
-small-part : (c : tie.After-small-arg) → length (take 64 (start c.before.before).args.out.now) ≡ 64
+small-part : (c : tie.After-small-arg-1) → length (take 64 c.args.out.now) ≡ 64
 small-part c =
-    length-take-le 64 (start c.before.before).args.out.now (fits c.before.before small (family_small _ c.before.if2.true)).1.1
+    length-take-le 64 c.args.out.now (fits c.before.before small (family_small _ c.if-width-le256.true)).1.1
 
 small-requires : tie.Need-small-requires
-small-requires c κs = let all = fits c.before.before small (family_small _ c.before.if2.true) in (all.0, (all.1.0, small-part c))
+small-requires c κs = let all = fits c.before.before small (family_small _ c.if-width-le256.true) in (all.0, (all.1.0, small-part c))
 
-returns-2 : tie.Need-returns-2
+returns-2 : tie.Need-returns-then-width-le256
 returns-2 c =
-    let way = c.before.before.before.before in
-    let e = way.before in
-    let a = (start e).args in
-    accepted (moved a.back) a.width a.last a.state.now a.block.now a.out.now e.before.refusal.ensures e.if1.false
-    small (family_small _ way.if2.true) (ap (λ l. l ++ drop 64 a.out.now) c.before.before.small.ensures)
+    let a = c.args in
+    accepted (moved a.back) a.width a.last a.state.now a.block.now a.out.now c.refusal-refused.ensures c.if-refused-ne0.false
+    small (family_small _ c.if-width-le256.true) (ap (λ l. l ++ drop 64 a.out.now) c.small.ensures)
 
-large-part : (c : tie.After-large-arg) → length (take 128 (start c.before.before).args.out.now) ≡ 128
+large-part : (c : tie.After-large-arg-1) → length (take 128 c.args.out.now) ≡ 128
 large-part c =
-    length-take-le 128 (start c.before.before).args.out.now (fits c.before.before large (family_large _ c.before.if2.false)).1.1
+    length-take-le 128 c.args.out.now (fits c.before.before large (family_large _ c.if-width-le256.false)).1.1
 
 large-requires : tie.Need-large-requires
-large-requires c κs = let all = fits c.before.before large (family_large _ c.before.if2.false) in (all.0, (all.1.0, large-part c))
+large-requires c κs = let all = fits c.before.before large (family_large _ c.if-width-le256.false) in (all.0, (all.1.0, large-part c))
 
-returns-3 : tie.Need-returns-3
+returns-3 : tie.Need-returns
 returns-3 c =
-    let way = c.before.before.before.before in
-    let e = way.before in
-    let a = (start e).args in
-    accepted (moved a.back) a.width a.last a.state.now a.block.now a.out.now e.before.refusal.ensures e.if1.false
-    large (family_large _ way.if2.false) (ap (λ l. l ++ drop 128 a.out.now) c.before.before.large.ensures)
+    let a = c.args in
+    accepted (moved a.back) a.width a.last a.state.now a.block.now a.out.now c.refusal-refused.ensures c.if-refused-ne0.false
+    large (family_large _ c.if-width-le256.false) (ap (λ l. l ++ drop 128 a.out.now) c.large.ensures)
 
 pub run_spec : {M : Type 1} → statement M
 run_spec =
     tie.close
-    (tie.spec (λ c κs. search rules) returns
-    (λ c. (fits c.before small (family_small _ c.if2.true)).1.1) (λ c. sym (small-part c)) small-requires (λ c. search rules) returns-2
-    (λ c. (fits c.before large (family_large _ c.if2.false)).1.1) (λ c. sym (large-part c)) large-requires (λ c. search rules) returns-3)
+    (tie.spec (λ c κs. search rules) returns (λ c. (fits c.before small (family_small _ c.if-width-le256.true)).1.1) (λ c. sym (small-part c)) small-requires (λ c. search rules) returns-2 (λ c. (fits c.before large (family_large _ c.if-width-le256.false)).1.1) (λ c. sym (large-part c)) large-requires (λ c. search rules) returns-3)

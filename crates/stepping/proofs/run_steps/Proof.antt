@@ -7,7 +7,7 @@ use Rattle.stepping.proofs.run_steps.Tie as tie
 
 returns : tie.Need-returns
 unfolding forward moved turned
-returns c = c.before.before.run.ensures
+returns c = c.run.ensures
 
-pub run-steps-spec : {M : Type 1} → statement M
-run-steps-spec = tie.close (tie.spec (λ c κs. search rules) (λ c. search rules) returns)
+pub run_steps_spec : {M : Type 1} → statement M
+run_steps_spec = tie.close (tie.spec (λ c κs. search rules) (λ c. search rules) returns)

@@ -7,7 +7,7 @@ use Rattle.stepping.proofs.run_unsteps.Tie as tie
 
 returns : tie.Need-returns
 unfolding backward moved turned
-returns c = c.before.before.run.ensures
+returns c = c.run.ensures
 
-pub run-unsteps-spec : {M : Type 1} → statement M
-run-unsteps-spec = tie.close (tie.spec (λ c κs. search rules) (λ c. search rules) returns)
+pub run_unsteps_spec : {M : Type 1} → statement M
+run_unsteps_spec = tie.close (tie.spec (λ c κs. search rules) (λ c. search rules) returns)

@@ -4,21 +4,21 @@ use Rattle.stepping.specs.Call.{size_refusal}
 use Rattle.stepping.proofs.size_refusal.Statement.{statement}
 use Rattle.stepping.proofs.size_refusal.Tie as tie
 
-returns : tie.Need-returns
+returns : tie.Need-returns-then-state-size
 unfolding size_refusal
-returns c = simp (ne_eqb _ _ c.if1.true)
+returns c = simp (ne_eqb _ _ c.if-state-size.true)
 
-returns-2 : tie.Need-returns-2
+returns-2 : tie.Need-returns-then-block-size
 unfolding size_refusal
-returns-2 c = simp (eq-eqb _ _ c.before.if1.false, ne_eqb _ _ c.if2.true)
+returns-2 c = simp (eq-eqb _ _ c.if-state-size.false, ne_eqb _ _ c.if-block-size.true)
 
-returns-3 : tie.Need-returns-3
+returns-3 : tie.Need-returns-then-room-size
 unfolding size_refusal
-returns-3 c = simp (eq-eqb _ _ c.before.before.if1.false, eq-eqb _ _ c.before.if2.false, lt-leb _ _ c.if3.true)
+returns-3 c = simp (eq-eqb _ _ c.if-state-size.false, eq-eqb _ _ c.if-block-size.false, lt-leb _ _ c.if-room-size.true)
 
-returns-4 : tie.Need-returns-4
+returns-4 : tie.Need-returns
 unfolding size_refusal
-returns-4 c = simp (eq-eqb _ _ c.before.before.if1.false, eq-eqb _ _ c.before.if2.false, le-leb _ _ c.if3.false)
+returns-4 c = simp (eq-eqb _ _ c.if-state-size.false, eq-eqb _ _ c.if-block-size.false, le-leb _ _ c.if-room-size.false)
 
-pub size-refusal-spec : {M : Type 1} → statement M
-size-refusal-spec = tie.close (tie.spec returns returns-2 returns-3 returns-4)
+pub size_refusal_spec : {M : Type 1} → statement M
+size_refusal_spec = tie.close (tie.spec returns returns-2 returns-3 returns-4)

@@ -10,13 +10,10 @@ use Rattle.steps_large.proofs.all_steps.Tie as tie
 
 returns : tie.Need-returns
 returns c =
-    let s4 = c.before.before in
-    let s2 = s4.before.before.before.before in
-    let s1 = s2.before.before in
-    let p = s1.before.before.args in
-    let ran = rounds large p.w.now p.st s1.round-0.ensures s2.round-1.ensures s4.before.before.round-2.ensures s4.round-3.ensures in
-    c.last-steps.ensures ∙ ap (λ l. columns (last_steps large (from_columns p.old.now) (from_columns l))) ran
+    let p = c.args in
+    let ran = rounds large p.w.now p.st c.round_0-s1.ensures c.round_1-s2.ensures c.round_2-s3.ensures c.round_3-s4.ensures in
+    c.last_steps.ensures ∙ ap (λ l. columns (last_steps large (from_columns p.old.now) (from_columns l))) ran
 
-pub all-steps-spec : {M : Type 1} → statement M
-all-steps-spec =
+pub all_steps_spec : {M : Type 1} → statement M
+all_steps_spec =
     tie.close (tie.spec (λ c κs. search rules) (λ c κs. search rules) (λ c κs. search rules) (λ c κs. search rules) (λ c κs. search rules) returns)

@@ -8,8 +8,8 @@ use Rattle.steps_large.proofs.step.Tie as tie
 
 returns : tie.Need-returns
 returns c =
-    let p = c.before.before.before.before.args in
-    c.mixed.ensures ∙ stepped_step large p.i p.t2 p.st
+    let p = c.args in
+    c.mixed.ensures ∙ stepped_step large p.i p.w p.st
 
 pub step_spec : {M : Type 1} → statement M
-step_spec = tie.close (tie.spec (λ c κs. search rules) (λ c κs. c.before.turned.ensures) returns)
+step_spec = tie.close (tie.spec (λ c κs. search rules) (λ c κs. c.turned-b.ensures) returns)

@@ -7,15 +7,10 @@ use Rattle.steps_small.proofs.last_steps.Tie as tie
 
 returns : tie.Need-returns
 returns c =
-    let s3 = c.before.before.before.before in
-    let s2 = s3.before.before.before.before in
-    let s1 = s2.before.before.before.before in
-    let p = s1.before.before.before.before.args in
-    last_four small p.old.now p.st s1.step.ensures s2.step2.ensures s3.step3.ensures c.step4.ensures
+    let p = c.args in
+    last_four small p.old.now p.st c.step-s1.ensures c.step-s2.ensures c.step-s3.ensures c.step.ensures
 
-pub last-steps-spec : {M : Type 1} → statement M
-last-steps-spec =
+pub last_steps_spec : {M : Type 1} → statement M
+last_steps_spec =
     tie.close
-    (tie.spec (λ c. search rules) (λ c κs. search rules) (λ c κs. c.before.numbers.ensures) (λ c. search rules) (λ c κs. search rules)
-    (λ c κs. c.before.numbers2.ensures) (λ c. search rules) (λ c κs. search rules) (λ c κs. c.before.numbers3.ensures) (λ c. search rules)
-    (λ c κs. search rules) (λ c κs. c.before.numbers4.ensures) returns)
+    (tie.spec (λ c. search rules) (λ c κs. search rules) (λ c κs. c.before.numbers.ensures) (λ c. search rules) (λ c κs. search rules) (λ c κs. c.before.numbers-2.ensures) (λ c. search rules) (λ c κs. search rules) (λ c κs. c.before.numbers-3.ensures) (λ c. search rules) (λ c κs. search rules) (λ c κs. c.before.numbers-4.ensures) returns)

@@ -8,8 +8,8 @@ use Rattle.steps_small.proofs.step.Tie as tie
 
 returns : tie.Need-returns
 returns c =
-    let p = c.before.before.before.before.args in
-    c.step.ensures ∙ stepped_step small p.i p.t2 p.st
+    let p = c.args in
+    c.step.ensures ∙ stepped_step small p.i p.w p.st
 
 pub step_spec : {M : Type 1} → statement M
 step_spec = tie.close (tie.spec (λ c κs. search rules) (λ c κs. c.before.numbers.ensures) returns)

@@ -8,5 +8,5 @@ returns : tie.Need-returns
 unfolding large_exchanges
 returns c = refl
 
-pub large-exchanges-spec : {M : Type 1} → statement M
-large-exchanges-spec = tie.close (tie.spec returns)
+pub large_exchanges_spec : {M : Type 1} → statement M
+large_exchanges_spec = tie.close (tie.spec returns)

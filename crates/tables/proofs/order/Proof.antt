@@ -8,5 +8,5 @@ returns : tie.Need-returns
 unfolding order
 returns c = refl
 
-pub order-spec : {M : Type 1} → statement M
-order-spec = tie.close (tie.spec returns)
+pub order_spec : {M : Type 1} → statement M
+order_spec = tie.close (tie.spec returns)

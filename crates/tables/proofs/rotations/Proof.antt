@@ -8,5 +8,5 @@ returns : tie.Need-returns
 unfolding rotations
 returns c = refl
 
-pub rotations-spec : {M : Type 1} → statement M
-rotations-spec = tie.close (tie.spec returns)
+pub rotations_spec : {M : Type 1} → statement M
+rotations_spec = tie.close (tie.spec returns)

@@ -8,5 +8,5 @@ returns : tie.Need-returns
 unfolding small_exchanges
 returns c = refl
 
-pub small-exchanges-spec : {M : Type 1} → statement M
-small-exchanges-spec = tie.close (tie.spec returns)
+pub small_exchanges_spec : {M : Type 1} → statement M
+small_exchanges_spec = tie.close (tie.spec returns)

@@ -12,22 +12,20 @@ use Rattle.tail.proofs.Absorbing.{whole_absorbed}
 use Rattle.tail.proofs.absorb.Statement.{statement}
 use Rattle.tail.proofs.absorb.Tie as tie
 
-returns : tie.Need-returns
+returns : tie.Need-returns-then-width-le256
 returns c =
-    let b = c.before.before.before.before.before in
-    let a = b.before.before.args in
-    let narrowed = c.before.before.before.narrow.ensures in
-    let compressed = c.before.absorb.ensures ∙ ap (λ (s : List ℕ). absorbed small s a.bytes.now (length a.bytes.now / 64)) narrowed in
-    rw (le-leb a.width 256 b.if1.true) (c.widen.ensures ∙ ap (padded 32) compressed)
+    let a = c.args in
+    let narrowed = c.narrow-small.ensures in
+    let compressed = c.absorb.ensures ∙ ap (λ (s : List ℕ). absorbed small s a.bytes.now (length a.bytes.now / 64)) narrowed in
+    rw (le-leb a.width 256 c.if-width-le256.true) (c.widen-wide.ensures ∙ ap (padded 32) compressed)
 
-returns-2 : tie.Need-returns-2
+returns-2 : tie.Need-returns-else-width-le256
 returns-2 c =
-    let b = c.before.before in
-    let a = b.before.before.args in
-    rw (lt-leb a.width 256 b.if1.false)
-    (c.absorb2.ensures ∙ sym (whole_absorbed a.state.now a.bytes.now (length a.bytes.now / 128) b.before.before.requires))
+    let a = c.args in
+    rw (lt-leb a.width 256 c.if-width-le256.false)
+    (c.absorb-else-width-le256.ensures ∙ sym (whole_absorbed a.state.now a.bytes.now (length a.bytes.now / 128) c.requires))
 
-pub absorb-spec : {M : Type 1} → statement M
-absorb-spec =
+pub absorb_spec : {M : Type 1} → statement M
+absorb_spec =
     tie.close
     (tie.spec (λ c κs. search rules) (λ c κs. search rules) (λ c κs. search rules) (λ c κs. search rules) returns returns-2)

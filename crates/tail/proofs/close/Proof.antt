@@ -15,36 +15,29 @@ use Rattle.tail.proofs.Closing.{one_compression, two_compressions}
 use Rattle.tail.proofs.close.Statement.{statement}
 use Rattle.tail.proofs.close.Tie as tie
 
-abbrev start : tie.After-used-bits → tie.Start
-start c = c.before.before
-
 conclude-requires : tie.Need-conclude-requires
 conclude-requires c κs =
-    let s = start c.before in
-    (s.pre.0, omega (arith, s.pre.1, c.before.used-bits.ensures, used_within (family_of s.args.width) s.args.bits))
+    (c.requires.0, omega (arith, c.requires.1, c.used_bits-used.ensures, used_within (family_of c.args.width) c.args.bits))
 
-closed : (c : tie.After-conclude) → let a = (start c.before.before).args in let f = family_of a.width in let n = a.bits % block_bits f in
-    c.conclude.new.1.0 ≡ padded 32 (compression f true
+closed : (c : tie.After-conclude) → let a = c.args in let f = family_of a.width in let n = a.bits % block_bits f in
+    c.conclude.new.state ≡ padded 32 (compression f true
     (chain f (take (state_words f) a.state.now) (message a.tail.now n) (message_blocks f n)) (length_block f a.bits))
 closed c =
-    let u = c.before.before in
-    let a = (start u).args in
+    let a = c.args in
     let f = family_of a.width in
     c.conclude.ensures
     ∙ ap (λ (n : ℕ). padded 32 (compression f true
-    (chain f (take (state_words f) a.state.now) (message a.tail.now n) (message_blocks f n)) (length_block f a.bits))) u.used-bits.ensures
+    (chain f (take (state_words f) a.state.now) (message a.tail.now n) (message_blocks f n)) (length_block f a.bits))) c.used_bits-used.ensures
 
-returns : tie.Need-returns
+returns : tie.Need-returns-then-used-eq0
 returns c =
-    let u = c.before.before.before in
-    let a = (start u).args in
-    (closed c.before, one_compression (family_of a.width) a.bits u.used-bits.result u.used-bits.ensures c.if1.true)
+    let a = c.args in
+    (closed c.before, one_compression (family_of a.width) a.bits c.used_bits-used.result c.used_bits-used.ensures c.if-used-eq0.true)
 
-returns-2 : tie.Need-returns-2
+returns-2 : tie.Need-returns-else-used-eq0
 returns-2 c =
-    let u = c.before.before.before in
-    let a = (start u).args in
-    (closed c.before, two_compressions (family_of a.width) a.bits u.used-bits.result u.used-bits.ensures c.if1.false)
+    let a = c.args in
+    (closed c.before, two_compressions (family_of a.width) a.bits c.used_bits-used.result c.used_bits-used.ensures c.if-used-eq0.false)
 
 pub close_spec : {M : Type 1} → statement M
 close_spec = tie.close (tie.spec (λ c κs. search rules) conclude-requires returns returns-2)

@@ -14,27 +14,25 @@ use Rattle.tail.proofs.Absorbing.{whole_concluded}
 use Rattle.tail.proofs.conclude.Statement.{statement}
 use Rattle.tail.proofs.conclude.Tie as tie
 
-returns : tie.Need-returns
+returns : tie.Need-returns-then-width-le256
 returns c =
-    let b = c.before.before.before.before.before in
-    let a = b.before.before.args in
+    let a = c.args in
     let m = message a.bytes.now a.count in
-    let narrowed = c.before.before.before.narrow.ensures in
+    let narrowed = c.narrow-small.ensures in
     let compressed =
-    c.before.conclude.ensures
+    c.conclude.ensures
     ∙ ap (λ (s : List ℕ). compression small true (chain small s m (message_blocks small a.count)) (length_block small a.bits)) narrowed in
-    rw (le-leb a.width 256 b.if1.true) (c.widen.ensures ∙ ap (padded 32) compressed)
+    rw (le-leb a.width 256 c.if-width-le256.true) (c.widen-wide.ensures ∙ ap (padded 32) compressed)
 
-returns-2 : tie.Need-returns-2
+returns-2 : tie.Need-returns-else-width-le256
 returns-2 c =
-    let b = c.before.before in
-    let a = b.before.before.args in
-    rw (lt-leb a.width 256 b.if1.false)
-    (c.conclude2.ensures
+    let a = c.args in
+    rw (lt-leb a.width 256 c.if-width-le256.false)
+    (c.conclude-else-width-le256.ensures
     ∙ sym (whole_concluded a.state.now (message a.bytes.now a.count) (message_blocks large a.count) (length_block large a.bits)
-    b.before.before.requires.0))
+    c.requires.0))
 
-pub conclude-spec : {M : Type 1} → statement M
-conclude-spec =
+pub conclude_spec : {M : Type 1} → statement M
+conclude_spec =
     tie.close
     (tie.spec (λ c κs. search rules) (λ c κs. search rules) (λ c κs. search rules) (λ c κs. search rules) returns returns-2)

@@ -3,11 +3,11 @@ use borrow.Author.Tests.{le-leb, lt-leb}
 use Rattle.tail.proofs.full_blocks.Statement.{statement}
 use Rattle.tail.proofs.full_blocks.Tie as tie
 
-returns : tie.Need-returns
-returns c = rw (le-leb c.before.args.width 256 c.if1.true)
+returns : tie.Need-returns-then-width-le256
+returns c = rw (le-leb c.args.width 256 c.if-width-le256.true)
 
-returns-2 : tie.Need-returns-2
-returns-2 c = rw (lt-leb c.before.args.width 256 c.if1.false)
+returns-2 : tie.Need-returns-else-width-le256
+returns-2 c = rw (lt-leb c.args.width 256 c.if-width-le256.false)
 
-pub full-blocks-spec : {M : Type 1} → statement M
-full-blocks-spec = tie.close (tie.spec returns returns-2)
+pub full_blocks_spec : {M : Type 1} → statement M
+full_blocks_spec = tie.close (tie.spec returns returns-2)

@@ -12,93 +12,72 @@ use Rattle.tape.proofs.Reached.{Reached, reached_none, Obeyed, answers_refused, 
 use Rattle.tape.proofs.advance.Statement.{statement}
 use Rattle.tape.proofs.advance.Tie as tie
 
-abbrev invariant-loop : tie.invariant-loop
+abbrev invariant-loop : tie.invariant-loop-command
 invariant-loop tape from out₀ at₀ hash₀ out at hash = (out ≡ out₀) × Reached tape from at hash
 
-abbrev decreases-loop : tie.decreases-loop
+abbrev decreases-loop : tie.decreases-loop-command
 decreases-loop tape from out₀ at₀ hash₀ out at hash = length tape - at
 
-abbrev start : tie.At-loop invariant-loop decreases-loop → tie.Start invariant-loop decreases-loop
-start c = c.before.before.before.before
-
-abbrev turn : tie.After-reading invariant-loop decreases-loop → tie.At-loop invariant-loop decreases-loop
-turn c = c.before.before.before
-
--- The command read, and the hash after it.
 found :
-    (c : tie.After-reading invariant-loop decreases-loop) →
-    read_at (start (turn c)).args.tape.now (turn c).loop.at ≡ Found c.reading.given.0.0 c.reading.given.0.1.0
-found c = sym c.before.before.read.ensures ∙ c.reading.given.1
+    (c : tie.In-Found invariant-loop decreases-loop) →
+    read_at c.args.tape.now c.loop-command.at ≡ Found c.in-Found.command c.in-Found.after
+found c = sym c.read-reading.ensures ∙ c.in-Found.is
 
 obeyed :
-    (c : tie.After-obey invariant-loop decreases-loop) →
-    let reading = c.before.before in
-    let l = (turn reading).loop in
-    let a = (start (turn reading)).args in
-    Obeyed a.tape.now a.from l.at l.hash reading.reading.given.0.0 reading.reading.given.0.1.0 c.obey.result
-obeyed c = record { reached = (turn c.before.before).loop.inv.1; found = found c.before.before; obeys = c.obey.ensures }
+    (c : tie.After-obey-step invariant-loop decreases-loop) →
+    let l = c.loop-command in
+    let a = c.args in
+    Obeyed a.tape.now a.from l.at l.hash c.in-Found.command c.in-Found.after c.obey-step.result
+obeyed c = record { reached = c.loop-command.invariant.1; found = found c.before; obeys = c.obey-step.ensures }
 
-loop-holds : tie.Need-loop-init invariant-loop decreases-loop
+loop-holds : tie.Need-loop-command-init invariant-loop decreases-loop
 loop-holds c =
-    let a = c.before.before.before.args in
-    (refl, reached_none a.tape.now a.from c.none.result c.none.ensures)
+    let a = c.args in
+    (refl, reached_none a.tape.now a.from c.none-hash.result c.none-hash.ensures)
 
-returns : tie.Need-returns invariant-loop decreases-loop
+returns : tie.Need-returns-in_default invariant-loop decreases-loop
 returns c =
-    let l = c.before.before.before.before in
-    let told = c.before.enum_told.given.1 in
-    let read = c.before.before.before.read.ensures in
-    let done = answers_refused l.loop.invariant.1 _ _ (start l).args.out.now (sym read ∙ told) in
-    (c.refused.ensures ∙ ap end_of told ∙ done.answer, l.loop.invariant.0 ∙ done.buffer)
+    let told = c.in_default.is in
+    let read = c.read-reading.ensures in
+    let done = answers_refused c.loop-command.invariant.1 _ _ c.args.out.now (sym read ∙ told) in
+    (c.refused.ensures ∙ ap end_of told ∙ done.answer, c.loop-command.invariant.0 ∙ done.buffer)
 
-obey-requires : tie.Need-obey-requires invariant-loop decreases-loop
-obey-requires c κs = read_inside _ _ _ _ (found c.before)
+obey-requires : tie.Need-obey-step-requires invariant-loop decreases-loop
+obey-requires c κs = read_inside _ _ _ _ (found c)
 
-returns-2 : tie.Need-returns-2 invariant-loop decreases-loop
+returns-2 : tie.Need-returns-then-number-ne0 invariant-loop decreases-loop
 returns-2 c =
-    let l = turn c.before.before.before in
-    let done = answers_step (obeyed c.before) c.if1.true (start l).args.out.now in
-    (done.answer, l.loop.inv.0 ∙ done.buffer)
+    let done = answers_step (obeyed c.before) c.if-number-ne0.true c.args.out.now in
+    (done.answer, c.loop-command.invariant.0 ∙ done.buffer)
 
 finish-requires : tie.Need-finish-requires invariant-loop decreases-loop
 finish-requires c κs =
-    let obey = c.before.before.before.before.before in
-    let reading = obey.before.before in
-    let there = read_next _ _ _ _ (found reading) in
-    omega (arith, there.0, there.1, (start (turn reading)).good)
+    let there = read_next _ _ _ _ (found c.before.before.before.before.before) in
+    omega (arith, there.0, there.1, c.well_formed)
 
-returns-3 : tie.Need-returns-3 invariant-loop decreases-loop
+returns-3 : tie.Need-returns-in-Take invariant-loop decreases-loop
 returns-3 c =
-    let call = c.before.before in
-    let take = call.before.before in
-    let obey = take.before.before.before.before in
-    let l = turn obey.before.before in
-    let finished = rw l.loop.inv.0 at call.finish.ensures in
+    let finished = rw c.loop-command.invariant.0 at c.finish.ensures in
     let done =
-    answers_take (obeyed obey) take.enum-told2.given.1 take.before.before.before.if1.false
-    (start l).args.out.now call.finish.new.1.1.0 call.finish.result finished in
+    answers_take (obeyed c.before.before.before.before.before.before.before) c.in-Take.is c.if-number-ne0.false
+    c.args.out.now c.finish.new.out c.finish.result finished in
     (done.answer, done.buffer)
 
-returns-4 : tie.Need-returns-4 invariant-loop decreases-loop
+returns-4 : tie.Need-returns-in-Stop invariant-loop decreases-loop
 returns-4 c =
-    let obey = c.before.before.before.before in
-    let l = turn obey.before.before in
-    let done = answers_stop (obeyed obey) c.enum-told3.given.1 (start l).args.out.now in
-    (done.answer, l.loop.inv.0 ∙ done.buffer)
+    let done = answers_stop (obeyed c.before.before.before) c.in-Stop.is c.args.out.now in
+    (done.answer, c.loop-command.invariant.0 ∙ done.buffer)
 
-loop-less : tie.Need-loop-smaller invariant-loop decreases-loop
+loop-less : tie.Need-loop-command-smaller invariant-loop decreases-loop
 loop-less c =
-    let there = read_next _ _ _ _ (found c.before.before.before.before.before) in
+    let there = read_next _ _ _ _ (found c.before.before.before.before) in
     omega (arith, there.0, there.1)
 
-loop-again : tie.Need-loop-preserved invariant-loop decreases-loop
+loop-again : tie.Need-loop-command-preserved invariant-loop decreases-loop
 loop-again c =
-    let obey = c.before.before.before in
-    ((turn obey.before.before).loop.inv.0, reached_next (obeyed obey) c.match2.keys3 c.before.before.if1.false)
+    (c.loop-command.invariant.0, reached_next (obeyed c.before.before.before) c.in_default-command.in_default-command-own.keys3 c.if-number-ne0.false)
 
-pub advance-spec : {M : Type 1} → statement M
-advance-spec =
+pub advance_spec : {M : Type 1} → statement M
+advance_spec =
     tie.close
-    (tie.spec invariant-loop decreases-loop (λ c κs. search rules) loop-holds (λ c κs. search rules) (λ c. search rules) (λ c. search rules)
-    (λ c κs. search rules) (λ c. search rules) returns obey-requires (λ c. search rules) returns-2 (λ c. search rules)
-    finish-requires (λ c. search rules) returns-3 (λ c. search rules) (λ c. search rules) returns-4 loop-less loop-again)
+    (tie.spec invariant-loop decreases-loop (λ c κs. search rules) loop-holds (λ c κs. search rules) (λ c. search rules) (λ c. search rules) (λ c κs. search rules) (λ c. search rules) returns obey-requires (λ c. search rules) returns-2 (λ c. search rules) finish-requires (λ c. search rules) returns-3 (λ c. search rules) (λ c. search rules) returns-4 loop-less loop-again)

@@ -6,11 +6,11 @@ use borrow.Author.Rules.{rules}
 use Rattle.tape.proofs.closing.Statement.{statement}
 use Rattle.tape.proofs.closing.Tie as tie
 
-returns : tie.Need-returns
-returns c = sym (ap (λ (n : Next). close_of n c.before.before.args.digests) c.enum_told.given.1)
+returns : tie.Need-returns-in-Taken
+returns c = sym (ap (λ (n : Next). close_of n c.args.digests) c.in-Taken.is)
 
-returns-2 : tie.Need-returns-2
-returns-2 c = sym (ap (λ (n : Next). close_of n c.before.before.before.args.digests) c.before.next.given.1)
+returns-2 : tie.Need-returns-in-Ended
+returns-2 c = sym (ap (λ (n : Next). close_of n c.args.digests) c.in-Ended.is)
 
-pub closing-spec : {M : Type 1} → statement M
-closing-spec = tie.close (tie.spec (λ c. search rules) (λ c. search rules) returns returns-2)
+pub closing_spec : {M : Type 1} → statement M
+closing_spec = tie.close (tie.spec (λ c. search rules) (λ c. search rules) returns returns-2)

@@ -12,72 +12,56 @@ use Rattle.tape.proofs.Finishing.{Copied, finish_none, finish_some}
 use Rattle.tape.proofs.finish.Statement.{statement}
 use Rattle.tape.proofs.finish.Tie as tie
 
-abbrev start : tie.After-blank → tie.Start
-start c = c.before.before.before.before
+array-borrow-prefix-digest : tie.Need-slice_bounds-digest-end
+array-borrow-prefix-digest c = omega (arith, c.fitting-size.ensures.0, c.blank-digest.ensures)
 
--- The place after the take, and the place where the room for the digest was made.
-abbrev took : tie.After-digest3 → tie.After-take
-took c = c.before.before.before
-
-abbrev made : tie.After-take → tie.After-blank
-made c = c.before.before
-
-array-borrow-prefix-digest : tie.Need-array-borrow-prefix-digest
-array-borrow-prefix-digest c = omega (arith, c.before.fitting.ensures.0, c.blank.ensures)
-
-slice-aggregate-take : tie.Need-slice-aggregate-take
+slice-aggregate-take : tie.Need-slice_bounds-take-end
 slice-aggregate-take c =
-    sym (length-take-le c.before.before.fitting.result c.before.blank.result (array-borrow-prefix-digest c.before))
+    sym (length-take-le c.fitting-size.result c.blank-digest.result (array-borrow-prefix-digest c.before))
 
-array-share-prefix-digest : tie.Need-array-share-prefix-digest
+array-share-prefix-digest : tie.Need-slice_bounds-digest-end-2
 array-share-prefix-digest c =
-    let call = c.before.before in
-    let fitting = (made call).before.fitting in
-    let blank = (made call).blank in
-    let back = length-append call.take.new.1.0 (drop fitting.result blank.result) in
+    let fitting = c.fitting-size in
+    let blank = c.blank-digest in
+    let back = length-append c.take-taken.new.out (drop fitting.result blank.result) in
     let rest = length-drop fitting.result blank.result in
-    omega (arith, fitting.ensures.0, blank.ensures, call.take.auto.1.0, slice-aggregate-take call.before)
+    omega (arith, fitting.ensures.0, blank.ensures, c.take-taken.auto.out, slice-aggregate-take c.before.before.before)
 
-slice-aggregate-put : tie.Need-slice-aggregate-put
+slice-aggregate-put : tie.Need-slice_bounds-put-end
 slice-aggregate-put c =
-    let call = took c in
-    let size = (made call).before.fitting.result in
-    sym (length-take-le size (call.take.last.1.0 ++ drop size (made call).blank.result) (array-share-prefix-digest c.before))
+    let size = c.fitting-size.result in
+    sym (length-take-le size (c.take-taken.new.out ++ drop size c.blank-digest.result) (array-share-prefix-digest c.before))
 
 put-requires : tie.Need-put-requires
-put-requires c κs = omega (arith, slice-aggregate-put c, (made (took c)).before.fitting.ensures.1)
+put-requires c κs = omega (arith, slice-aggregate-put c, c.fitting-size.ensures.1)
 
 copied :
     (c : tie.After-put) →
-    let a = (start (made (took c.before))).args in
-    Copied a.hash a.out.now c.put.new.0 (took c.before).take.result
+    let a = c.args in
+    Copied a.hash a.out.now c.put.new.text c.take-taken.result
 copied c =
-    let call = took c.before in
-    let room = made call in
-    let fitting = room.before.fitting in
+    let fitting = c.fitting-size in
     record {
-      room = room.blank.result;
-      part = call.take.last.1.0;
+      room = c.blank-digest.result;
+      part = c.take-taken.new.out;
       size = fitting.result;
-      long = room.blank.ensures;
+      long = c.blank-digest.ensures;
       small = fitting.ensures.0;
       fit =
-          subst (λ (v : ℕ). v ≤ 64 → fitting.result ≡ cond (leb v (length (start room).args.out.now)) v 0)
-          room.before.before.wide.ensures fitting.ensures.2;
-      answer = call.take.ensures.0;
-      took = call.take.ensures.1;
+          subst (λ (v : ℕ). v ≤ 64 → fitting.result ≡ cond (leb v (length c.args.out.now)) v 0)
+          c.wide.ensures fitting.ensures.2;
+      answer = c.take-taken.ensures.0;
+      took = c.take-taken.ensures.1;
       wrote = c.put.ensures.0;
     }
 
-returns : tie.Need-returns
-returns c = finish_none (copied c.before.before.before.before) _ c.if1.true
+returns : tie.Need-returns-then-taken-ne0
+returns c = finish_none (copied c.before.before.before.before) _ c.if-taken-ne0.true
 
-returns-2 : tie.Need-returns-2
-returns-2 c = finish_some (copied c.before.before.before.before) _ c.if1.false
+returns-2 : tie.Need-returns
+returns-2 c = finish_some (copied c.before.before.before.before) _ c.if-taken-ne0.false
 
 pub finish_spec : {M : Type 1} → statement M
 finish_spec =
     tie.close
-    (tie.spec (λ c κs. search rules) (λ c κs. search rules) (λ c κs. search rules) array-borrow-prefix-digest slice-aggregate-take
-    (λ c κs. search rules) array-share-prefix-digest slice-aggregate-put put-requires (λ c. search rules) returns
-    (λ c. search rules) (λ c. search rules) returns-2)
+    (tie.spec (λ c κs. search rules) (λ c κs. search rules) (λ c κs. search rules) array-borrow-prefix-digest slice-aggregate-take (λ c κs. search rules) array-share-prefix-digest slice-aggregate-put put-requires (λ c. search rules) returns (λ c. search rules) (λ c. search rules) returns-2)

@@ -5,8 +5,8 @@ use borrow.Author.Rules.{rules}
 use Rattle.tape.proofs.refused.Statement.{statement}
 use Rattle.tape.proofs.refused.Tie as tie
 
-returns-2 : tie.Need-returns-2
-returns-2 c = sym (ap end_of c.before.reading.given.1)
+returns-2 : tie.Need-returns-in-Refused
+returns-2 c = sym (ap end_of c.in-Refused.is)
 
-pub refused-spec : {M : Type 1} → statement M
-refused-spec = tie.close (tie.spec (λ c. search rules) (λ c. search rules) (λ c. search rules) returns-2)
+pub refused_spec : {M : Type 1} → statement M
+refused_spec = tie.close (tie.spec (λ c. search rules) (λ c. search rules) (λ c. search rules) returns-2)

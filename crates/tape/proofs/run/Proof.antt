@@ -10,53 +10,38 @@ use Rattle.tape.proofs.Done.{Done, done_none, done_more, done_end, later, Advanc
 use Rattle.tape.proofs.run.Statement.{statement}
 use Rattle.tape.proofs.run.Tie as tie
 
-abbrev invariant-loop : tie.invariant-loop
+abbrev invariant-loop : tie.invariant-loop-width
 invariant-loop tape out₀ at₀ used₀ digests₀ out at used digests = Done tape out₀ out at used digests
 
-abbrev decreases-loop : tie.decreases-loop
+abbrev decreases-loop : tie.decreases-loop-width
 decreases-loop tape out₀ at₀ used₀ digests₀ out at used digests = length tape - at
 
-abbrev start : tie.At-loop invariant-loop decreases-loop → tie.Start invariant-loop decreases-loop
-start c = c.before.before.before
-
-abbrev turn : tie.After-advance invariant-loop decreases-loop → tie.At-loop invariant-loop decreases-loop
-turn c = c.before.before
-
-abbrev step : tie.After-found invariant-loop decreases-loop → tie.After-advance invariant-loop decreases-loop
-step c = c.before.before.before.before
-
--- What the run from the place reached answered and wrote.
 came :
-    (c : tie.After-advance invariant-loop decreases-loop) {next : Next} → c.advance.result ≡ next →
-    let l = (turn c).loop in
-    Advanced (start (turn c)).args.tape.now l.out l.at l.used c.advance.new.1.1.0 next
-came c told = advanced _ _ _ _ _ told c.advance.ensures.0 c.advance.ensures.1
+    (c : tie.After-advance-found invariant-loop decreases-loop) {next : Next} → c.advance-found.result ≡ next →
+    let l = c.loop-width in
+    Advanced c.args.tape.now l.out l.at l.used c.advance-found.new.out next
+came c told = advanced _ _ _ _ _ told c.advance-found.ensures.0 c.advance-found.ensures.1
 
-loop-holds : tie.Need-loop-init invariant-loop decreases-loop
-loop-holds c = done_none c.before.before.args.tape.now c.before.before.args.out.now
+loop-holds : tie.Need-loop-width-init invariant-loop decreases-loop
+loop-holds c = done_none c.args.tape.now c.args.out.now
 
-returns : tie.Need-returns invariant-loop decreases-loop
+returns : tie.Need-returns-in_default invariant-loop decreases-loop
 returns c =
-    let told = c.before.enum_told.given.1 in
-    let call = c.before.before.before.before.before in
-    let l = (turn call).loop in
-    let done = done_end l.inv (came call told) in
+    let told = c.in_default.is in
+    let l = c.loop-width in
+    let done = done_end l.invariant (came c.before.before.before.before told) in
     (c.closing.ensures ∙ ap (λ (n : Next). close_of n l.digests) told ∙ done.0, done.1)
 
-loop-less : tie.Need-loop-smaller invariant-loop decreases-loop
+loop-less : tie.Need-loop-width-smaller invariant-loop decreases-loop
 loop-less c =
-    let found = c.before.before in
-    let more = later (turn (step found)).loop.inv (came (step found) found.found.given.1) in
+    let more = later c.loop-width.invariant (came c.before.before.before.before c.in-Taken.is) in
     omega (arith, more.0, more.1)
 
-loop-again : tie.Need-loop-preserved invariant-loop decreases-loop
+loop-again : tie.Need-loop-width-preserved invariant-loop decreases-loop
 loop-again c =
-    let found = c.before.before in
-    rw c.wide.ensures (done_more (turn (step found)).loop.inv (came (step found) found.found.given.1))
+    rw c.wide-used.ensures (done_more c.loop-width.invariant (came c.before.before.before.before c.in-Taken.is))
 
 pub run_spec : {M : Type 1} → statement M
 run_spec =
     tie.close
-    (tie.spec invariant-loop decreases-loop loop-holds (λ c. search rules) (λ c. search rules) (λ c. search rules) (λ c κs. search rules)
-    (λ c. search rules) (λ c. search rules) (λ c κs. search rules) (λ c. search rules) returns (λ c κs. search rules)
-    (λ c. search rules) (λ c. search rules) loop-less loop-again)
+    (tie.spec invariant-loop decreases-loop loop-holds (λ c. search rules) (λ c. search rules) (λ c. search rules) (λ c κs. search rules) (λ c. search rules) (λ c. search rules) (λ c κs. search rules) (λ c. search rules) returns (λ c κs. search rules) (λ c. search rules) (λ c. search rules) loop-less loop-again)

@@ -14,12 +14,12 @@ returns : tie.Need-returns
 unfolding decimalOf
 returns c =
     let a = c.before.before.before.before.before.args in
-    let call = c.before.before.digits in (
+    let call = c.before.before.digits-next in (
       ap (λ (x : List ℕ). set x call.result a.end) call.ensures.0
           ∙ over_byte a.text.now a.at (decimalOf a.n) a.end call.result call.ensures.1 (omega arith),
       omega (arith, length-append (decimalOf a.n) (a.end ∷ []), call.ensures.1),
       omega arith,
     )
 
-pub decimal-spec : {M : Type 1} → statement M
-decimal-spec = tie.close (tie.spec (λ c κs. search rules) (λ c. search rules) (λ c. search rules) (λ c. search rules) returns)
+pub decimal_spec : {M : Type 1} → statement M
+decimal_spec = tie.close (tie.spec (λ c κs. search rules) (λ c. search rules) (λ c. search rules) (λ c. search rules) returns)

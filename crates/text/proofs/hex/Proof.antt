@@ -12,34 +12,34 @@ use Rattle.text.proofs.Words.{length_hex, hex_more}
 use Rattle.text.proofs.hex.Statement.{statement}
 use Rattle.text.proofs.hex.Tie as tie
 
-abbrev invariant-loop : tie.invariant-loop
+abbrev invariant-loop : tie.invariant-loop-i
 invariant-loop text₀ at bytes end i₀ text i = (i ≤ length bytes) × (length text ≡ length text₀) × (text ≡ over text₀ at (hexOf (take i bytes)))
 
-abbrev decreases-loop : tie.decreases-loop
+abbrev decreases-loop : tie.decreases-loop-i
 decreases-loop text₀ at bytes end i₀ text i = length bytes - i
 
-loop-holds : tie.Need-loop-init invariant-loop decreases-loop
+loop-holds : tie.Need-loop-i-init invariant-loop decreases-loop
 unfolding hexOf
 loop-holds c =
     let a = c.before.before.args in
     (search rules, refl, sym (over_nil a.text.now a.at))
 
 glyph-requires : tie.Need-glyph-requires invariant-loop decreases-loop
-glyph-requires c κs = omega (arith, c.shared-slice-known2.given c.before.before.loop.i)
+glyph-requires c κs = omega (arith, c.shared_slice_known-in-loop-i-1.given c.before.before.loop-i.i)
 
-slice-write-text-2 : tie.Need-slice-write-text-2 invariant-loop decreases-loop
+slice-write-text-2 : tie.Need-bounds-text-at-in-loop-i invariant-loop decreases-loop
 slice-write-text-2 c = simp length-set (omega arith)
 
-loop-again : tie.Need-loop-preserved invariant-loop decreases-loop
+loop-again : tie.Need-loop-i-preserved invariant-loop decreases-loop
 loop-again c =
     let turn = c.before.before.before.before in
     let a = turn.before.before.before.args in
-    let l = turn.loop in
+    let l = turn.loop-i in
     let t = a.text.now in
     let n = a.at + 2 * l.i in
     let done = take l.i a.bytes.now in
     let first = c.before.glyph.ensures in
-    let second = c.glyph2.ensures in
+    let second = c.glyph-in-loop-i.ensures in
     let size : length done ≡ l.i = length-take-le l.i a.bytes.now (search rules) in (
       search rules,
       simp length-set l.invariant.1,
@@ -48,13 +48,13 @@ loop-again c =
           ∙ ap (over t a.at) (sym (hex_more a.bytes.now l.i (search rules))),
     )
 
-same_length : tie.Need-same-length invariant-loop decreases-loop
-same_length c = simp length-set c.before.loop.invariant.1
+same_length : tie.Need-shape_of-text invariant-loop decreases-loop
+same_length c = simp length-set c.before.loop-i.invariant.1
 
 returns : tie.Need-returns invariant-loop decreases-loop
 returns c =
     let a = c.before.before.before.before.args in
-    let l = c.before.loop in
+    let l = c.before.loop-i in
     let t = a.text.now in
     let n = a.at + 2 * l.i in
     let all : take l.i a.bytes.now ≡ a.bytes.now = take_all l.i a.bytes.now (search rules) in (
@@ -65,8 +65,8 @@ returns c =
       omega arith,
     )
 
-pub hex-spec : {M : Type 1} → statement M
-hex-spec =
+pub hex_spec : {M : Type 1} → statement M
+hex_spec =
     tie.close
     (tie.spec invariant-loop decreases-loop loop-holds (λ c. search rules) glyph-requires (λ c. search rules) (λ c. search rules)
     (λ c. search rules) (λ c κs. search rules) (λ c. search rules) (λ c. search rules) (λ c. search rules) slice-write-text-2

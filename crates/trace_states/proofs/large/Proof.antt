@@ -7,46 +7,37 @@ use borrow.Author.Rules.{rules}
 use Rattle.trace_states.proofs.large.Statement.{statement}
 use Rattle.trace_states.proofs.large.Tie as tie
 
-abbrev invariant-loop : tie.invariant-loop
+abbrev invariant-loop : tie.invariant-loop-i
 invariant-loop last state block out₀ w old st₀ i₀ out st i = Tracing large last state block w old out₀ out st i
 
-abbrev decreases-loop : tie.decreases-loop
+abbrev decreases-loop : tie.decreases-loop-i
 decreases-loop last state block out₀ w old st₀ i₀ out st i = 36 - i
 
-loop-holds : tie.Need-loop-init invariant-loop decreases-loop
+loop-holds : tie.Need-loop-i-init invariant-loop decreases-loop
 loop-holds c =
-    let read = c.before.before.before.before in
-    tracing_none (omega arith) read.read.ensures read.before.before.expand-large.ensures c.before.before.split.ensures
-    c.before.mixed.ensures c.split2.ensures
+    tracing_none (omega arith) c.read.ensures c.expand_large-w.ensures c.split-old.ensures
+    c.mixed.ensures c.split-st.ensures
 
 -- The head of a turn.
-abbrev turn : tie.After-flat invariant-loop decreases-loop → tie.At-loop invariant-loop decreases-loop
-turn c = c.before.before.before.before.before.before
+row-large-requires : tie.Need-row_large-row-requires invariant-loop decreases-loop
+row-large-requires c κs = (c.loop-i.invariant.count, search rules)
 
-row-large-requires : tie.Need-row-large-requires invariant-loop decreases-loop
-row-large-requires c κs = (c.before.before.before.loop.invariant.count, search rules)
-
-put-row-requires : tie.Need-put-row-requires invariant-loop decreases-loop
+put-row-requires : tie.Need-put_row-requires invariant-loop decreases-loop
 put-row-requires c κs =
-    let flat = c.before.before in
-    tracing_room (turn flat).loop.invariant (search rules) flat.before.step.result flat.flat.ensures
+    tracing_room c.loop-i.invariant (search rules) c.step-next.result c.flat-words.ensures
 
-loop-again : tie.Need-loop-preserved invariant-loop decreases-loop
+loop-again : tie.Need-loop-i-preserved invariant-loop decreases-loop
 loop-again c =
-    let flat = c.before.before.before.before.before in
-    tracing_more (turn flat).loop.invariant (search rules) flat.before.before.row-large.ensures flat.before.step.ensures flat.flat.ensures
-    c.before.before.put-row.ensures
+    tracing_more c.loop-i.invariant (search rules) c.row_large-row.ensures c.step-next.ensures c.flat-words.ensures
+    c.put_row.ensures
 
-same_length : tie.Need-same-length invariant-loop decreases-loop
-same_length c = search (rules, c.before.loop.invariant.put.size)
+same_length : tie.Need-shape_of-out invariant-loop decreases-loop
+same_length c = search (rules, c.loop-i.invariant.put.size)
 
 returns : tie.Need-returns invariant-loop decreases-loop
-returns c = tracing_all c.before.loop.invariant (search rules)
+returns c = tracing_all c.loop-i.invariant (search rules)
 
-pub large-spec : {M : Type 1} → statement M
-large-spec =
+pub large_spec : {M : Type 1} → statement M
+large_spec =
     tie.close
-    (tie.spec invariant-loop decreases-loop (λ c κs. search rules) (λ c κs. search rules) (λ c. search rules) (λ c κs. search rules)
-    (λ c κs. search rules) (λ c κs. search rules) (λ c κs. search rules) loop-holds row-large-requires (λ c κs. search rules)
-    (λ c κs. search rules) (λ c. search rules) (λ c. search rules) put-row-requires (λ c. search rules) (λ c. search rules)
-    loop-again same_length returns)
+    (tie.spec invariant-loop decreases-loop (λ c κs. search rules) (λ c κs. search rules) (λ c. search rules) (λ c κs. search rules) (λ c κs. search rules) (λ c κs. search rules) (λ c κs. search rules) loop-holds row-large-requires (λ c κs. search rules) (λ c κs. search rules) (λ c. search rules) (λ c. search rules) put-row-requires (λ c. search rules) (λ c. search rules) loop-again same_length returns)

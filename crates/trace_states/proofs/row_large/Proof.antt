@@ -4,15 +4,13 @@ use borrow.Author.Rules.{rules}
 use Rattle.trace_states.proofs.row_large.Statement.{statement}
 use Rattle.trace_states.proofs.row_large.Tie as tie
 
-returns : tie.Need-returns
+returns : tie.Need-returns-then-i-lt32
 returns c =
-    let s = c.before.before in
-    row_front s.args.w.now s.args.old.now s.requires.0 s.args.i c.before.if1.true
+    row_front c.args.w.now c.args.old.now c.requires.0 c.args.i c.if-i-lt32.true
 
-returns-2 : tie.Need-returns-2
+returns-2 : tie.Need-returns
 returns-2 c =
-    let s = c.before.before in
-    row_back s.args.w.now s.args.old.now s.requires.0 s.args.i c.before.if1.false
+    row_back c.args.w.now c.args.old.now c.requires.0 c.args.i c.if-i-lt32.false
 
-pub row-large-spec : {M : Type 1} → statement M
-row-large-spec = tie.close (tie.spec (λ c. search rules) (λ c. search rules) returns (λ c. search rules) (λ c. search rules) returns-2)
+pub row_large_spec : {M : Type 1} → statement M
+row_large_spec = tie.close (tie.spec (λ c. search rules) (λ c. search rules) returns (λ c. search rules) (λ c. search rules) returns-2)

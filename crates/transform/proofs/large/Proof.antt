@@ -14,123 +14,75 @@ use Rattle.transform.proofs.large.Statement.{statement}
 use Rattle.transform.proofs.large.Tie as tie
 
 -- The place where the function starts, and that after the call of `append`, from the places after later calls.
-abbrev start-append : tie.After-append → tie.Start
-start-append c = c.before.before.before.before
+within-shuffle : (c : tie.After-shuffle) → Within 256 2570 45000 c.shuffle.new.y
+within-shuffle c = shuffled_within c.shuffle.ensures 2570 45000 c.begin.ensures.1
 
-abbrev start-shuffle3 : tie.After-shuffle3 → tie.Start
-start-shuffle3 c =
-    let second = c.before.before.before.before in
-    let first = second.before.before.before.before in
-    let begin = first.before.before.before.before in
-    start-append begin.before.before.before.before
+within-shuffle2 : (c : tie.After-shuffle-2) → Within 256 2570 45000 c.shuffle-2.new.y
+within-shuffle2 c = shuffled_within c.shuffle-2.ensures 2570 45000 (within-shuffle c.before.before.before.before)
 
-abbrev start-rows : tie.After-rows → tie.Start
-start-rows c = start-shuffle3 c.before.before.before.before.before
+within-shuffle3 : (c : tie.After-shuffle-3) → Within 256 2570 45000 c.shuffle-3.new.y
+within-shuffle3 c = shuffled_within c.shuffle-3.ensures 2570 45000 (within-shuffle2 c.before.before.before.before)
 
-abbrev start-rows2 : tie.After-rows2 → tie.Start
-start-rows2 c = start-rows c.before.before.before.before.before
-
-abbrev start-rows3 : tie.After-rows3 → tie.Start
-start-rows3 c = start-rows2 c.before.before.before.before.before
-
-abbrev start-rows4 : tie.After-rows4 → tie.Start
-start-rows4 c = start-rows3 c.before.before.before.before.before
-
-abbrev start-rows5 : tie.After-rows5 → tie.Start
-start-rows5 c = start-rows4 c.before.before.before.before.before
-
--- Between which bounds the numbers lie after each call.
-within-shuffle : (c : tie.After-shuffle) → Within 256 2570 45000 c.shuffle.new.1.0
-within-shuffle c = shuffled_within c.shuffle.ensures 2570 45000 c.before.before.before.before.begin.ensures.1
-
-within-shuffle2 : (c : tie.After-shuffle2) → Within 256 2570 45000 c.shuffle2.new.1.0
-within-shuffle2 c = shuffled_within c.shuffle2.ensures 2570 45000 (within-shuffle c.before.before.before.before)
-
-within-shuffle3 : (c : tie.After-shuffle3) → Within 256 2570 45000 c.shuffle3.new.1.0
-within-shuffle3 c = shuffled_within c.shuffle3.ensures 2570 45000 (within-shuffle2 c.before.before.before.before)
-
-within-rows : (c : tie.After-rows) → Within 256 2058 45512 c.rows.new.1.0
+within-rows : (c : tie.After-rows) → Within 256 2058 45512 c.rows.new.y
 within-rows c = c.rows.ensures.1.within 2058 45000 (within-shuffle3 c.before.before.before.before.before)
 
-within-rows2 : (c : tie.After-rows2) → Within 256 1546 46024 c.rows2.new.1.0
-within-rows2 c = c.rows2.ensures.1.within 1546 45512 (within-rows c.before.before.before.before.before)
+within-rows2 : (c : tie.After-rows-2) → Within 256 1546 46024 c.rows-2.new.y
+within-rows2 c = c.rows-2.ensures.1.within 1546 45512 (within-rows c.before.before.before.before.before)
 
-within-rows3 : (c : tie.After-rows3) → Within 256 1034 46536 c.rows3.new.1.0
-within-rows3 c = c.rows3.ensures.1.within 1034 46024 (within-rows2 c.before.before.before.before.before)
+within-rows3 : (c : tie.After-rows-3) → Within 256 1034 46536 c.rows-3.new.y
+within-rows3 c = c.rows-3.ensures.1.within 1034 46024 (within-rows2 c.before.before.before.before.before)
 
-within-rows4 : (c : tie.After-rows4) → Within 256 522 47048 c.rows4.new.1.0
-within-rows4 c = c.rows4.ensures.1.within 522 46536 (within-rows3 c.before.before.before.before.before)
+within-rows4 : (c : tie.After-rows-4) → Within 256 522 47048 c.rows-4.new.y
+within-rows4 c = c.rows-4.ensures.1.within 522 46536 (within-rows3 c.before.before.before.before.before)
 
 append-requires : tie.Need-append-requires
 append-requires c κs = (refl, omega arith, (λ q h. get_or-replicate 32 q 0 0 h))
 
 begin-requires : tie.Need-begin-requires
 begin-requires c κs =
-    let append = c.before.before.before in
-    (((start-append append).requires.0.0, omega arith, refl), (λ q h. ends_small 32 _ q _ (append.append.ensures q h)))
+    ((c.requires.0.0, omega arith, refl), (λ q h. ends_small 32 _ q _ (c.append.ensures q h)))
 
 rows-requires : tie.Need-rows-requires
 rows-requires c κs =
-    let level = c.before.before.before.before in
-    let bounds = loosened 256 2570 45000 level.shuffle3.new.1.0 (within-shuffle3 level) (omega arith) (omega arith) in
-    ((omega arith, omega arith, refl, refl), ((omega arith, refl, (λ g r. omega arith), omega arith), ((start-shuffle3 level).requires.1, bounds)))
+    let bounds = loosened 256 2570 45000 c.shuffle-3.new.y (within-shuffle3 c.before.before.before.before) (omega arith) (omega arith) in
+    ((omega arith, omega arith, refl, refl), ((omega arith, refl, (λ g r. omega arith), omega arith), (c.requires.1, bounds)))
 
 rows-requires-2 : tie.Need-rows-requires-2
 rows-requires-2 c κs =
-    let level = c.before.before.before.before in
-    let bounds = loosened 256 2058 45512 level.rows.new.1.0 (within-rows level) (omega arith) (omega arith) in
-    ((omega arith, omega arith, refl, refl), ((omega arith, refl, (λ g r. omega arith), omega arith), ((start-rows level).requires.1, bounds)))
+    let bounds = loosened 256 2058 45512 c.rows.new.y (within-rows c.before.before.before.before) (omega arith) (omega arith) in
+    ((omega arith, omega arith, refl, refl), ((omega arith, refl, (λ g r. omega arith), omega arith), (c.requires.1, bounds)))
 
 rows-requires-3 : tie.Need-rows-requires-3
 rows-requires-3 c κs =
-    let level = c.before.before.before.before in
-    let bounds = loosened 256 1546 46024 level.rows2.new.1.0 (within-rows2 level) (omega arith) (omega arith) in
-    ((omega arith, omega arith, refl, refl), ((omega arith, refl, (λ g r. omega arith), omega arith), ((start-rows2 level).requires.1, bounds)))
+    let bounds = loosened 256 1546 46024 c.rows-2.new.y (within-rows2 c.before.before.before.before) (omega arith) (omega arith) in
+    ((omega arith, omega arith, refl, refl), ((omega arith, refl, (λ g r. omega arith), omega arith), (c.requires.1, bounds)))
 
 rows-requires-4 : tie.Need-rows-requires-4
 rows-requires-4 c κs =
-    let level = c.before.before.before.before in
-    let bounds = loosened 256 1034 46536 level.rows3.new.1.0 (within-rows3 level) (omega arith) (omega arith) in
-    ((omega arith, omega arith, refl, refl), ((omega arith, refl, (λ g r. omega arith), omega arith), ((start-rows3 level).requires.1, bounds)))
+    let bounds = loosened 256 1034 46536 c.rows-3.new.y (within-rows3 c.before.before.before.before) (omega arith) (omega arith) in
+    ((omega arith, omega arith, refl, refl), ((omega arith, refl, (λ g r. omega arith), omega arith), (c.requires.1, bounds)))
 
 rows-requires-5 : tie.Need-rows-requires-5
 rows-requires-5 c κs =
-    let level = c.before.before.before.before in
-    let bounds = loosened 256 522 47048 level.rows4.new.1.0 (within-rows4 level) (omega arith) (omega arith) in
-    ((omega arith, omega arith, refl, refl), ((omega arith, refl, (λ g r. omega arith), omega arith), ((start-rows4 level).requires.1, bounds)))
+    let bounds = loosened 256 522 47048 c.rows-4.new.y (within-rows4 c.before.before.before.before) (omega arith) (omega arith) in
+    ((omega arith, omega arith, refl, refl), ((omega arith, refl, (λ g r. omega arith), omega arith), (c.requires.1, bounds)))
 
 finish-requires : tie.Need-finish-requires
-finish-requires c κs = (omega arith, (start-rows5 c.before.before.before).requires.0.1, refl)
+finish-requires c κs = (omega arith, c.requires.0.1, refl)
 
 returns : tie.Need-returns
 returns c =
-    let finish = c.before.before in
-    let rows5 = finish.before.before.before.before in
-    let rows4 = rows5.before.before.before.before.before in
-    let rows3 = rows4.before.before.before.before.before in
-    let rows2 = rows3.before.before.before.before.before in
-    let rows = rows2.before.before.before.before.before in
-    let shuffle3 = rows.before.before.before.before.before in
-    let shuffle2 = shuffle3.before.before.before.before in
-    let shuffle = shuffle2.before.before.before.before in
-    let begin = shuffle.before.before.before.before in
-    let append = begin.before.before.before.before in
-    let s = start-append append in
-    let b = s.args.block.now in
-    let ends = append.append.new.0 in
-    let eight = rows_level 32 128 refl shuffle.shuffle.ensures shuffle2.shuffle2.ensures shuffle3.shuffle3.ensures (held 32 b ends) 32
-    begin.begin.ensures.0 in
-    let most = level_128 (held 32 b ends) 2 eight rows.rows.ensures.0 rows2.rows2.ensures.0 rows3.rows3.ensures.0 rows4.rows4.ensures.0 in
-    let all = rows5.rows5.ensures.0.next (held 32 b ends) 0 refl most in
-    transformed large s.args.last b ends 1 32 128 256 (refl, s.pre.0.0, refl, refl) (refl, omega arith)
-    (λ k. ap (power 41) (sym (one-mul k))) append.append.ensures all
-    (omega (arith, finish.finish.auto.1.0, s.pre.0.1)) finish.finish.ensures
+    let b = c.args.block.now in
+    let ends = c.append.new.ends in
+    let eight = rows_level 32 128 refl c.shuffle.ensures c.shuffle-2.ensures c.shuffle-3.ensures (held 32 b ends) 32
+    c.begin.ensures.0 in
+    let most = level_128 (held 32 b ends) 2 eight c.rows.ensures.0 c.rows-2.ensures.0 c.rows-3.ensures.0 c.rows-4.ensures.0 in
+    let all = c.rows-5.ensures.0.next (held 32 b ends) 0 refl most in
+    transformed large c.args.last b ends 1 32 128 256 (refl, c.requires.0.0, refl, refl) (refl, omega arith)
+    (λ k. ap (power 41) (sym (one-mul k))) c.append.ensures all
+    (omega (arith, c.finish.auto.out, c.requires.0.1)) c.finish.ensures
 
-pub large-spec : {M : Type 1} → statement M
-large-spec =
+pub large_spec : {M : Type 1} → statement M
+large_spec =
     tie.close
-    (tie.spec (λ c. search rules) append-requires (λ c. search rules) (λ c. search rules) begin-requires (λ c. search rules)
-    (λ c. search rules) (λ c κs. search rules) (λ c. search rules) (λ c. search rules) (λ c κs. search rules) (λ c. search rules)
-    (λ c. search rules) (λ c κs. search rules) (λ c. search rules) (λ c. search rules) rows-requires (λ c. search rules) (λ c. search rules)
-    rows-requires-2 (λ c. search rules) (λ c. search rules) rows-requires-3 (λ c. search rules) (λ c. search rules) rows-requires-4
-    (λ c. search rules) (λ c. search rules) rows-requires-5 (λ c. search rules) finish-requires (λ c. search rules) returns)
+    (tie.spec (λ c. search rules) append-requires (λ c. search rules) (λ c. search rules) begin-requires (λ c. search rules) (λ c. search rules) (λ c κs. search rules) (λ c. search rules) (λ c. search rules) (λ c κs. search rules) (λ c. search rules) (λ c. search rules) (λ c κs. search rules) (λ c. search rules) (λ c. search rules) rows-requires (λ c. search rules) (λ c. search rules) rows-requires-2 (λ c. search rules) (λ c. search rules) rows-requires-3 (λ c. search rules) (λ c. search rules) rows-requires-4 (λ c. search rules) (λ c. search rules) rows-requires-5 (λ c. search rules) finish-requires (λ c. search rules) returns)

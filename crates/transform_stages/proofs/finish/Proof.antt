@@ -5,30 +5,27 @@ use Rattle.transform_stages.proofs.Parts.{begun_none}
 use Rattle.transform_stages.proofs.finish.Statement.{statement}
 use Rattle.transform_stages.proofs.finish.Tie as tie
 
-abbrev invariant-loop : tie.invariant-loop
+abbrev invariant-loop : tie.invariant-loop-at
 invariant-loop x out₀ n at₀ out at = (at % 128 ≡ 0) × (at ≤ n) × (length out ≡ n) × Begun at x out
 
-abbrev decreases-loop : tie.decreases-loop
+abbrev decreases-loop : tie.decreases-loop-at
 decreases-loop x out₀ n at₀ out at = n - at
 
-loop-holds : tie.Need-loop-init invariant-loop decreases-loop
-loop-holds c = (omega arith, omega arith, c.before.before.requires.1, begun_none _ _)
+loop-holds : tie.Need-loop-at-init invariant-loop decreases-loop
+loop-holds c = (omega arith, omega arith, c.requires.1, begun_none _ _)
 
-more-finished-requires : tie.Need-more-finished-requires invariant-loop decreases-loop
+more-finished-requires : tie.Need-more_finished-requires invariant-loop decreases-loop
 more-finished-requires c κs =
-    let at = c.before.before in
-    let pre = at.before.before.before.requires in
-    (omega (arith, pre.2, at.loop.invariant.0), omega arith, at.loop.invariant.3)
+    let pre = c.requires in
+    (omega (arith, pre.2, c.loop-at.invariant.0), omega arith, c.loop-at.invariant.3)
 
-loop-again : tie.Need-loop-preserved invariant-loop decreases-loop
+loop-again : tie.Need-loop-at-preserved invariant-loop decreases-loop
 loop-again c =
-    let made = c.before.before in
-    let at = made.before.before.before in
-    let pre = at.before.before.before.requires in
-    (omega (arith, at.loop.invariant.0), omega (arith, pre.2, at.loop.invariant.0), omega arith, made.more-finished.ensures)
+    let pre = c.requires in
+    (omega (arith, c.loop-at.invariant.0), omega (arith, pre.2, c.loop-at.invariant.0), omega arith, c.more_finished.ensures)
 
 returns : tie.Need-returns invariant-loop decreases-loop
-returns c = λ i h. c.before.loop.invariant.3.remainder i (omega arith)
+returns c = λ i h. c.loop-at.invariant.3.remainder i (omega arith)
 
 pub finish_spec : {M : Type 1} → statement M
 finish_spec =

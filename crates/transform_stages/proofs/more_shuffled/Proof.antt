@@ -5,22 +5,21 @@ use Rattle.transform_stages.proofs.Parts.{shuffled_more}
 use Rattle.transform_stages.proofs.more_shuffled.Statement.{statement}
 use Rattle.transform_stages.proofs.more_shuffled.Tie as tie
 
-abbrev invariant-loop : tie.invariant-loop
+abbrev invariant-loop : tie.invariant-loop-k
 invariant-loop x y₀ half at k₀ y k = (k ≤ 64) × (length y ≡ 2 * half) × Shuffled half (at + k) x y
 
-abbrev decreases-loop : tie.decreases-loop
+abbrev decreases-loop : tie.decreases-loop-k
 decreases-loop x y₀ half at k₀ y k = 64 - k
 
-loop-holds : tie.Need-loop-init invariant-loop decreases-loop
+loop-holds : tie.Need-loop-k-init invariant-loop decreases-loop
 loop-holds c =
     let done = c.requires.1 in
     (omega arith, omega arith, record { even = λ i h. done.even i (omega arith); odd = λ i h. done.odd i (omega arith) })
 
-loop-again : tie.Need-loop-preserved invariant-loop decreases-loop
+loop-again : tie.Need-loop-k-preserved invariant-loop decreases-loop
 loop-again c =
-    let at = c.before.before.before in
-    let loop = at.loop in
-    let a = at.before.args in
+    let loop = c.loop-k in
+    let a = c.args in
     let i = a.at + loop.k in (
       omega arith,
       simp length-set loop.invariant.1,
@@ -29,12 +28,10 @@ loop-again c =
 
 returns : tie.Need-returns invariant-loop decreases-loop
 returns c =
-    let done = c.before.loop.invariant.2 in
+    let done = c.loop-k.invariant.2 in
     record { even = λ i h. done.even i (omega arith); odd = λ i h. done.odd i (omega arith) }
 
-pub more-shuffled-spec : {M : Type 1} → statement M
-more-shuffled-spec =
+pub more_shuffled_spec : {M : Type 1} → statement M
+more_shuffled_spec =
     tie.close
-    (tie.spec invariant-loop decreases-loop loop-holds (λ c. search rules) (λ c. search rules) (λ c. search rules) (λ c. search rules) (λ c. search rules)
-    (λ c. search rules) (λ c. search rules) (λ c. search rules) (λ c. search rules) (λ c. search rules) (λ c. search rules) (λ c. search rules)
-    (λ c. simp length-set (omega arith)) (λ c. search rules) (λ c. search rules) loop-again (λ c. search rules) returns)
+    (tie.spec invariant-loop decreases-loop loop-holds (λ c. search rules) (λ c. search rules) (λ c. search rules) (λ c. search rules) (λ c. search rules) (λ c. search rules) (λ c. search rules) (λ c. search rules) (λ c. search rules) (λ c. search rules) (λ c. search rules) (λ c. search rules) (λ c. simp length-set (omega arith)) (λ c. search rules) (λ c. search rules) loop-again (λ c. search rules) returns)

@@ -10,21 +10,20 @@ bounded c = product_bound c.args.f c.args.y c.requires.0 c.ranges.y.fits
 scaled : (c : tie.Start) → c.args.g * c.args.y ≡ 255 * (c.args.f * c.args.y)
 scaled c = ap (λ v. v * c.args.y) c.requires.1 ∙ mul_assoc 255 c.args.f c.args.y
 
-mul-q : tie.Need-overflow-mul-q
+mul-q : tie.Need-overflow_mul-q
 mul-q c = omega (arith, bounded c, scaled c)
 
-mul-p : tie.Need-overflow-mul-p
+mul-p : tie.Need-overflow_mul-p
 mul-p c = omega (arith, bounded c)
 
-mul-m : tie.Need-overflow-mul-m
+mul-m : tie.Need-overflow_mul-m
 mul-m c = rw c.requires.2 (omega (arith, bounded c, scaled c))
 
 returns : tie.Need-returns
 returns c =
-    let s = c.before in
-    reduced (s.args.f * s.args.y) c.wrapping-sub-u16.result (bounded s) (omega arith)
-    (rw (scaled s, s.requires.2) at c.wrapping-sub-u16.ensures)
+    reduced (c.args.f * c.args.y) c.wrapping_sub_u16.result (bounded c.before) (omega arith)
+    (rw (scaled c.before, c.requires.2) at c.wrapping_sub_u16.ensures)
 
-pub product-spec : {M : Type 1} → statement M
-product-spec =
+pub product_spec : {M : Type 1} → statement M
+product_spec =
     tie.close (tie.spec mul-q mul-p (λ c. search rules) mul-m (λ c. search rules) (λ c κs. search rules) returns)

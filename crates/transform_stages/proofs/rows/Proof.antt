@@ -5,21 +5,20 @@ use Rattle.transform_stages.proofs.Stages.{crossed_none, rows_lead}
 use Rattle.transform_stages.proofs.rows.Statement.{statement}
 use Rattle.transform_stages.proofs.rows.Tie as tie
 
-abbrev invariant-loop : tie.invariant-loop
+abbrev invariant-loop : tie.invariant-loop-at
 invariant-loop x y₀ t l n half at₀ y at = (at % 64 ≡ 0) × (at ≤ half) × (length y ≡ 2 * half) × Crossed l half at x t y
 
-abbrev decreases-loop : tie.decreases-loop
+abbrev decreases-loop : tie.decreases-loop-at
 decreases-loop x y₀ t l n half at₀ y at = half - at
 
-loop-holds : tie.Need-loop-init invariant-loop decreases-loop
-loop-holds c = (omega arith, omega arith, c.before.before.before.requires.0.1, crossed_none _ _ _ _ _)
+loop-holds : tie.Need-loop-at-init invariant-loop decreases-loop
+loop-holds c = (omega arith, omega arith, c.requires.0.1, crossed_none _ _ _ _ _)
 
-more-rows-requires : tie.Need-more-rows-requires invariant-loop decreases-loop
+more-rows-requires : tie.Need-more_rows-requires invariant-loop decreases-loop
 more-rows-requires c κs =
-    let loop = c.before.before.loop in
-    let s = c.before.before.before.before.before.before in
-    let a = s.args in
-    let pre = s.requires in
+    let loop = c.loop-at in
+    let a = c.args in
+    let pre = c.requires in
     let runs = pre.1.0 in
     let here : 64 * (loop.at / 64) ≡ loop.at = omega (arith, loop.invariant.0) in (
       (pre.0.0, loop.invariant.2, omega (arith, pre.0.2, loop.invariant.0), pre.0.3, runs.3, pre.1.1.0),
@@ -34,23 +33,20 @@ more-rows-requires c κs =
       ),
     )
 
-loop-again : tie.Need-loop-preserved invariant-loop decreases-loop
+loop-again : tie.Need-loop-at-preserved invariant-loop decreases-loop
 loop-again c =
-    let made = c.before.before in
-    let at = made.before.before.before in
-    let pre = at.before.before.before.before.requires in
-    (omega (arith, at.loop.invariant.0), omega (arith, pre.0.2, at.loop.invariant.0), omega arith, made.more_rows.ensures)
+    let pre = c.requires in
+    (omega (arith, c.loop-at.invariant.0), omega (arith, pre.0.2, c.loop-at.invariant.0), omega arith, c.more_rows.ensures)
 
 returns : tie.Need-returns invariant-loop decreases-loop
 returns c =
-    let s = c.before.before.before.before.before in
-    let a = s.args in
-    let loop = c.before.loop in
-    let some = s.requires.1.0.2 0 0 in
-    rows_lead a.x.now a.t.now a.l a.half loop.y s.requires.1.1.0 (omega (arith, some, s.requires.1.0.0)) s.requires.0.3
+    let a = c.args in
+    let loop = c.loop-at in
+    let some = c.requires.1.0.2 0 0 in
+    rows_lead a.x.now a.t.now a.l a.half loop.y c.requires.1.1.0 (omega (arith, some, c.requires.1.0.0)) c.requires.0.3
     (record { here = λ b h. loop.invariant.3.here b (omega arith) })
 
-pub rows-spec : {M : Type 1} → statement M
-rows-spec =
+pub rows_spec : {M : Type 1} → statement M
+rows_spec =
     tie.close
     (tie.spec invariant-loop decreases-loop loop-holds more-rows-requires (λ c. search rules) (λ c. search rules) loop-again (λ c. search rules) returns)

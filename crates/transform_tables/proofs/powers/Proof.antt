@@ -7,5 +7,5 @@ use Rattle.transform_tables.proofs.powers.Tie as tie
 returns : tie.Need-returns
 returns c = powers_right _ refl tt refl
 
-pub powers-spec : {M : Type 1} → statement M
-powers-spec = tie.close (tie.spec returns)
+pub powers_spec : {M : Type 1} → statement M
+powers_spec = tie.close (tie.spec returns)

@@ -6,7 +6,7 @@ use Rattle.unstep_rows.proofs.difference.Tie as tie
 
 returns : tie.Need-returns
 unfolding sub
-returns c = omega (arith, c.wrapping-sub-u32.ensures)
+returns c = omega (arith, c.wrapping_sub_u32.ensures)
 
-pub difference-spec : {M : Type 1} → statement M
-difference-spec = tie.close (tie.spec (λ c κs. search rules) returns)
+pub difference_spec : {M : Type 1} → statement M
+difference_spec = tie.close (tie.spec (λ c κs. search rules) returns)

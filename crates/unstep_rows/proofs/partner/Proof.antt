@@ -6,5 +6,5 @@ use Rattle.unstep_rows.proofs.partner.Tie as tie
 returns : tie.Need-returns
 returns c = (refl, mod-lt _ c.requires)
 
-pub partner-spec : {M : Type 1} → statement M
-partner-spec = tie.close (tie.spec (λ c. search rules) returns)
+pub partner_spec : {M : Type 1} → statement M
+partner_spec = tie.close (tie.spec (λ c. search rules) returns)

@@ -6,6 +6,6 @@ use Rattle.unstep_rows.proofs.unmix.Tie as tie
 returns : tie.Need-returns
 returns c = cc
 
-pub unmix-spec : {M : Type 1} → statement M
-unmix-spec =
+pub unmix_spec : {M : Type 1} → statement M
+unmix_spec =
     tie.close (tie.spec (λ c κs. search rules) (λ c κs. search rules) (λ c κs. search rules) (λ c κs. search rules) returns)

@@ -6,32 +6,28 @@ use Rattle.unstep_rows.specs.Rows.{sub, rotr, word_d}
 use Rattle.unstep_rows.proofs.unmix_rows.Statement.{statement}
 use Rattle.unstep_rows.proofs.unmix_rows.Tie as tie
 
-abbrev invariant-loop : tie.invariant-loop
+abbrev invariant-loop : tie.invariant-loop-j
 invariant-loop a b c d old w s x i out₀ j₀ out j = (j ≤ length out₀) × Filled 0 (length out₀) (word_d (length out₀) i s x a b c d old w) j out
 
-abbrev decreases-loop : tie.decreases-loop
+abbrev decreases-loop : tie.decreases-loop-j
 decreases-loop a b c d old w s x i out₀ j₀ out j = length out₀ - j
 
-loop-holds : tie.Need-loop-init invariant-loop decreases-loop
+loop-holds : tie.Need-loop-j-init invariant-loop decreases-loop
 loop-holds c = (search rules, filled_none refl)
 
-loop-again : tie.Need-loop-preserved invariant-loop decreases-loop
+loop-again : tie.Need-loop-j-preserved invariant-loop decreases-loop
 loop-again c =
-    let choice = c.before.before.before.before in
-    let row = choice.before.before.before.before in
-    let at = row.before.before in
-    let first = at.before.before.before.before.before in
-    let p = first.before.before.before.args in
-    let j = at.loop.j in
-    let y-is = row.partner.ensures.0 ∙ ap (λ n. bit_xor j p.x % n) at.loop.invariant.1.size in
+    let p = c.args in
+    let j = c.loop-j.j in
+    let y-is = c.partner-y.ensures.0 ∙ ap (λ n. bit_xor j p.x % n) c.loop-j.invariant.1.size in
     let word : ℕ → ℕ → ℕ = λ y f. sub (sub (rotr p.s (sub (get_or p.a.now j 0) (get_or p.b.now y 0))) f) (get_or p.w.now j 0) in
-    (search rules, filled_more at.loop.invariant.1 (search rules) (c.unmix.ensures ∙ (λ t. word (y-is t) (choice.chosen.ensures t))))
+    (search rules, filled_more c.loop-j.invariant.1 (search rules) (c.unmix.ensures ∙ (λ t. word (y-is t) (c.chosen-f.ensures t))))
 
 returns : tie.Need-returns invariant-loop decreases-loop
-returns c = filled_all c.before.loop.invariant.1 (search rules)
+returns c = filled_all c.loop-j.invariant.1 (search rules)
 
-pub unmix-rows-spec : {M : Type 1} → statement M
-unmix-rows-spec =
+pub unmix_rows_spec : {M : Type 1} → statement M
+unmix_rows_spec =
     tie.close
     (tie.spec invariant-loop decreases-loop loop-holds (λ c κs. search rules) (λ c. search rules) (λ c. search rules) (λ c. search rules) (λ c. search rules)
     (λ c. search rules) (λ c. search rules) (λ c κs. search rules) (λ c. search rules) (λ c. search rules) (λ c. search rules) (λ c. search rules)

@@ -8,8 +8,8 @@ use Rattle.unstep_rows.proofs.unrotate.Tie as tie
 returns : tie.Need-returns
 unfolding rotr
 returns c =
-    let less : (32 - c.before.args.r) % 32 ≡ 32 - c.before.args.r = omega arith in
-    c.rotate.ensures ∙ ap (λ k. rotl k c.before.args.x) less
+    let less : (32 - c.args.r) % 32 ≡ 32 - c.args.r = omega arith in
+    c.rotate.ensures ∙ ap (λ k. rotl k c.args.x) less
 
-pub unrotate-spec : {M : Type 1} → statement M
-unrotate-spec = tie.close (tie.spec (λ c. search rules) (λ c κs. search rules) returns)
+pub unrotate_spec : {M : Type 1} → statement M
+unrotate_spec = tie.close (tie.spec (λ c. search rules) (λ c κs. search rules) returns)

@@ -8,5 +8,5 @@ returns : tie.Need-returns
 unfolding IF
 returns c = refl
 
-pub choice-spec : {M : Type 1} → statement M
-choice-spec = tie.close (tie.spec returns)
+pub choice_spec : {M : Type 1} → statement M
+choice_spec = tie.close (tie.spec returns)

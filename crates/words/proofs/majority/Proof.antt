@@ -8,5 +8,5 @@ returns : tie.Need-returns
 unfolding MAJ
 returns c = refl
 
-pub majority-spec : {M : Type 1} → statement M
-majority-spec = tie.close (tie.spec returns)
+pub majority_spec : {M : Type 1} → statement M
+majority_spec = tie.close (tie.spec returns)

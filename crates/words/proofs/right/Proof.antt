@@ -10,5 +10,5 @@ returns c =
     let all : 1 + (31 - k) ≡ 32 - k = omega arith in
     shr-shr x 1 (31 - k) ∙ ap (λ n. x / 2 ^ n) all
 
-pub right-spec : {M : Type 1} → statement M
-right-spec = tie.close (tie.spec (λ c. search rules) (λ c. search rules) returns)
+pub right_spec : {M : Type 1} → statement M
+right_spec = tie.close (tie.spec (λ c. search rules) (λ c. search rules) returns)

@@ -8,7 +8,7 @@ returns : tie.Need-returns
 unfolding add rotl
 returns c = omega arith
 
-pub rotated-plus-spec : {M : Type 1} → statement M
-rotated-plus-spec =
+pub rotated_plus_spec : {M : Type 1} → statement M
+rotated_plus_spec =
     tie.close
     (tie.spec (λ c κs. search rules) (λ c κs. search rules) (λ c κs. search rules) (λ c κs. search rules) returns)

@@ -6,5 +6,5 @@ use Rattle.words.proofs.step_sum.Tie as tie
 returns : tie.Need-returns
 returns c = cc
 
-pub step-sum-spec : {M : Type 1} → statement M
-step-sum-spec = tie.close (tie.spec (λ c κs. search rules) (λ c κs. search rules) (λ c κs. search rules) returns)
+pub step_sum_spec : {M : Type 1} → statement M
+step_sum_spec = tie.close (tie.spec (λ c κs. search rules) (λ c κs. search rules) (λ c κs. search rules) returns)

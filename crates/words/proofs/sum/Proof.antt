@@ -6,7 +6,7 @@ use Rattle.words.proofs.sum.Tie as tie
 
 returns : tie.Need-returns
 unfolding add
-returns c = c.wrapping-add-u32.ensures
+returns c = c.wrapping_add_u32.ensures
 
-pub sum-spec : {M : Type 1} → statement M
-sum-spec = tie.close (tie.spec (λ c κs. search rules) returns)
+pub sum_spec : {M : Type 1} → statement M
+sum_spec = tie.close (tie.spec (λ c κs. search rules) returns)

@@ -18,8 +18,7 @@ parts (suc k) x less fits =
 
 returns : tie.Need-returns
 returns c =
-    let s = c.before.before in
-    (λ t. bit_or (c.before.left.ensures t) (c.right.ensures t)) ∙ parts (s.args.r % 32) s.args.x (search rules) s.ranges.x.fits
+    (λ t. bit_or (c.left-h.ensures t) (c.right.ensures t)) ∙ parts (c.args.r % 32) c.args.x (search rules) c.ranges.x.fits
 
 pub turn_spec : {M : Type 1} → statement M
 turn_spec = tie.close (tie.spec (λ c κs. search rules) (λ c κs. search rules) returns)

@@ -10,26 +10,25 @@ use Rattle.compression.specs.Flat.{flat}
 use Rattle.compression.proofs.large.flat.Statement.{statement}
 use Rattle.compression.proofs.large.flat.Tie as tie
 
-abbrev invariant-loop : tie.invariant-loop
+abbrev invariant-loop : tie.invariant-loop-k
 invariant-loop s words₀ k₀ words k = (k ≤ 32) × Filled 0 32 (λ i. get_or (get_or s (i / 8) []) (i % 8) 0) k words
 
-abbrev decreases-loop : tie.decreases-loop
+abbrev decreases-loop : tie.decreases-loop-k
 decreases-loop s words₀ k₀ words k = 32 - k
 
-loop-holds : tie.Need-loop-init invariant-loop decreases-loop
+loop-holds : tie.Need-loop-k-init invariant-loop decreases-loop
 loop-holds c = (zero-le, filled_none (length-replicate {A = ℕ} 32 0))
 
-loop-again : tie.Need-loop-preserved invariant-loop decreases-loop
+loop-again : tie.Need-loop-k-preserved invariant-loop decreases-loop
 loop-again c =
-    let at = c.before.before.loop in
+    let at = c.loop-k in
     (omega arith, filled_more at.invariant.1 (search rules) refl)
 
 returns : tie.Need-returns invariant-loop decreases-loop
 unfolding flat
-returns c = filled_all c.before.loop.invariant.1 c.loop-test.false
+returns c = filled_all c.loop-k.invariant.1 c.loop-k-test.false
 
-pub flat-spec : {M : Type 1} → statement M
-flat-spec =
+pub flat_spec : {M : Type 1} → statement M
+flat_spec =
     tie.close
-    (tie.spec invariant-loop decreases-loop loop-holds (λ c. search rules) (λ c. search rules) (λ c. search rules) (λ c. search rules) (λ c. search rules)
-    (λ c. search rules) (λ c. search rules) (λ c. search rules) loop-again returns)
+    (tie.spec invariant-loop decreases-loop loop-holds (λ c. search rules) (λ c. search rules) (λ c. search rules) (λ c. search rules) (λ c. search rules) (λ c. search rules) (λ c. search rules) (λ c. search rules) loop-again returns)

@@ -11,27 +11,25 @@ use Rattle.compression.proofs.Laws.{split_columns}
 use Rattle.compression.proofs.large.split.Statement.{statement}
 use Rattle.compression.proofs.large.split.Tie as tie
 
-abbrev invariant-loop : tie.invariant-loop
+abbrev invariant-loop : tie.invariant-loop-k
 invariant-loop words s₀ k₀ s k = (k ≤ 4) × Filled [] 4 (λ i. table 8 (λ j. get_or words (8 * i + j) 0)) k s
 
-abbrev decreases-loop : tie.decreases-loop
+abbrev decreases-loop : tie.decreases-loop-k
 decreases-loop words s₀ k₀ s k = 4 - k
 
-loop-holds : tie.Need-loop-init invariant-loop decreases-loop
+loop-holds : tie.Need-loop-k-init invariant-loop decreases-loop
 loop-holds c = (zero-le, filled_none refl)
 
-loop-again : tie.Need-loop-preserved invariant-loop decreases-loop
+loop-again : tie.Need-loop-k-preserved invariant-loop decreases-loop
 loop-again c =
-    let at = c.before.before.before.before.before.loop in
-    (omega arith, filled_more at.invariant.1 (omega arith) c.before.column.ensures)
+    let at = c.loop-k in
+    (omega arith, filled_more at.invariant.1 (omega arith) c.column.ensures)
 
 returns : tie.Need-returns invariant-loop decreases-loop
 returns c =
-    let start = c.before.before in
-    filled_all c.before.loop.invariant.1 c.loop-test.false ∙ split_columns large start.args.t1 start.well-formed.0.1.0.1
+    filled_all c.loop-k.invariant.1 c.loop-k-test.false ∙ split_columns large c.args.words c.well_formed.0.1.0.1
 
-pub split-spec : {M : Type 1} → statement M
-split-spec =
+pub split_spec : {M : Type 1} → statement M
+split_spec =
     tie.close
-    (tie.spec invariant-loop decreases-loop loop-holds (λ c. search rules) (λ c. search rules) (λ c. search rules) (λ c κs. search rules) (λ c. search rules)
-    (λ c. search rules) (λ c. search rules) (λ c. search rules) loop-again returns)
+    (tie.spec invariant-loop decreases-loop loop-holds (λ c. search rules) (λ c. search rules) (λ c. search rules) (λ c κs. search rules) (λ c. search rules) (λ c. search rules) (λ c. search rules) (λ c. search rules) loop-again returns)

@@ -7,15 +7,11 @@ use Rattle.compression.proofs.small.compress.Tie as tie
 
 returns : tie.Need-returns
 returns c =
-    let ran = c.before in
-    let mixed = ran.before.before.before.before.before in
-    let expanded = mixed.before.before in
-    let p = expanded.before.before.before.args in
-    compressed small p.last p.state.now p.block.now mixed.before.split.ensures mixed.mixed.ensures
-    ran.before.before.before.before.split2.ensures expanded.expand-small.ensures ran.all-steps.ensures c.flat.ensures
+    let p = c.args in
+    compressed small p.last p.state.now p.block.now c.split-h.ensures c.mixed.ensures
+    c.split.ensures c.expand_small-w.ensures c.all_steps.ensures c.flat-new.ensures
 
-pub compress-spec : {M : Type 1} → statement M
-compress-spec =
+pub compress_spec : {M : Type 1} → statement M
+compress_spec =
     tie.close
-    (tie.spec (λ c κs. search rules) (λ c κs. search rules) (λ c κs. search rules) (λ c κs. search rules) (λ c κs. search rules)
-    (λ c κs. search rules) returns)
+    (tie.spec (λ c κs. search rules) (λ c κs. search rules) (λ c κs. search rules) (λ c κs. search rules) (λ c κs. search rules) (λ c κs. search rules) returns)

@@ -11,30 +11,29 @@ use Rattle.compression.proofs.Laws.{mixed_words}
 use Rattle.compression.proofs.small.mixed.Statement.{statement}
 use Rattle.compression.proofs.small.mixed.Tie as tie
 
-abbrev invariant-loop : tie.invariant-loop
+abbrev invariant-loop : tie.invariant-loop-i
 invariant-loop block old words₀ i₀ words i = (i ≤ 16) × Filled 0 16 (λ k. bit_xor (get_or old k 0) (word_at block k)) i words
 
-abbrev decreases-loop : tie.decreases-loop
+abbrev decreases-loop : tie.decreases-loop-i
 decreases-loop block old words₀ i₀ words i = 16 - i
 
-loop-holds : tie.Need-loop-init invariant-loop decreases-loop
-loop-holds c = (zero-le, filled_none c.before.well-formed.0.1.0.1)
+loop-holds : tie.Need-loop-i-init invariant-loop decreases-loop
+loop-holds c = (zero-le, filled_none c.well_formed.0.1.0.1)
 
 word-requires : tie.Need-word-requires invariant-loop decreases-loop
 word-requires c κs = omega arith
 
-loop-again : tie.Need-loop-preserved invariant-loop decreases-loop
+loop-again : tie.Need-loop-i-preserved invariant-loop decreases-loop
 loop-again c =
-    let at = c.before.before.loop in
-    (omega arith, filled_more at.invariant.1 (search rules) (ap (bit_xor (get_or c.before.before.before.before.args.t1 at.i 0)) c.word.ensures))
+    let at = c.loop-i in
+    (omega arith, filled_more at.invariant.1 (search rules) (ap (bit_xor (get_or c.args.old at.i 0)) c.word.ensures))
 
 returns : tie.Need-returns invariant-loop decreases-loop
 returns c =
-    let p = c.before.before.before.args in
-    filled_all c.before.loop.invariant.1 c.loop-test.false ∙ mixed_words small p.t1 p.block.now
+    let p = c.args in
+    filled_all c.loop-i.invariant.1 c.loop-i-test.false ∙ mixed_words small p.old p.block.now
 
-pub mixed-spec : {M : Type 1} → statement M
-mixed-spec =
+pub mixed_spec : {M : Type 1} → statement M
+mixed_spec =
     tie.close
-    (tie.spec invariant-loop decreases-loop loop-holds (λ c. search rules) (λ c. search rules) word-requires (λ c. search rules)
-    (λ c. search rules) (λ c. search rules) (λ c. search rules) loop-again returns)
+    (tie.spec invariant-loop decreases-loop loop-holds (λ c. search rules) (λ c. search rules) word-requires (λ c. search rules) (λ c. search rules) (λ c. search rules) (λ c. search rules) loop-again returns)

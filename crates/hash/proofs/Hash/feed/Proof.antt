@@ -9,64 +9,47 @@ use Rattle.hash.proofs.Hash.feed.Statement.{statement}
 use Rattle.hash.proofs.Hash.feed.Tie as tie
 
 -- The start, from the place after the check, and that place from later ones.
-abbrev lent : tie.After-tail2 → tie.Start
-lent c = c.before.before.before.before.before
-
-abbrev start : tie.After-feed-refusal → tie.Start
-start c = lent c.before
-
-abbrev accepted-before : tie.After-advance → tie.Else1
-accepted-before c = c.before.before.before.before.before.before
-
--- The lengths of the arrays of a hash.
 lengths : (s : tie.Start) → (length s.args.self.state ≡ 32) × (length s.args.self.tail ≡ 128)
 lengths s = (search rules, search rules)
 
-refused : (c : tie.After-feed-refusal)
-    → c.feed-refusal.result ≡ feed_refusal (start c).args.self (start c).args.piece.now (start c).args.count
+refused : (c : tie.After-feed_refusal-refusal)
+    → c.feed_refusal-refusal.result ≡ feed_refusal c.args.self c.args.piece.now c.args.count
 unfolding feed_refusal legal
-refused c = c.feed-refusal.ensures
+refused c = c.feed_refusal-refusal.ensures
 
-accepts : (c : tie.Else1) → Accepts (start c.before).args.self (start c.before).args.piece.now (start c.before).args.count
+accepts : (c : tie.Else-refusal-ne0) → Accepts c.args.self c.args.piece.now c.args.count
 accepts c =
-    let a = (start c.before).args in
-    feed_facts a.self a.piece.now a.count c.before.feed-refusal.result (refused c.before) c.if1.false
+    let a = c.args in
+    feed_facts a.self a.piece.now a.count c.feed_refusal-refusal.result (refused c.before) c.if-refusal-ne0.false
 
-returns : tie.Need-returns
+returns : tie.Need-returns-then-refusal-ne0
 returns c =
-    let a = (start c.before).args in
-    feed_refused a.self a.piece.now a.count c.before.feed-refusal.result (refused c.before) c.if1.true
+    let a = c.args in
+    feed_refused a.self a.piece.now a.count c.feed_refusal-refusal.result (refused c.before) c.if-refusal-ne0.true
 
-part-advance-end : tie.Need-slice-bounds-advance-end
+part-advance-end : tie.Need-slice_bounds-advance-end-2
 part-advance-end c =
-    let b = c.before.before.before in
-    omega (arith, b.bytes-of-bits.ensures, (accepts b.before).whole.within)
+    omega (arith, c.bytes_of_bits-bytes.ensures, (accepts c.before.before.before.before).whole.within)
 
-advance-requires : tie.Need-advance-requires
+advance-requires : tie.Need-advance-full-requires
 advance-requires c κs =
-    let u = c.before.before.before in
-    let b = u.before in
-    let s = start b.before.before in
-    let a = s.args in
-    ready a.self a.piece.now a.count (accepts b.before) b.bytes-of-bits.result b.bytes-of-bits.ensures
-    u.used-bits.result u.used-bits.ensures (lengths s).0 (lengths s).1
+    let a = c.args in
+    ready a.self a.piece.now a.count (accepts c.before.before.before.before.before) c.bytes_of_bits-bytes.result c.bytes_of_bits-bytes.ensures
+    c.used_bits-used.result c.used_bits-used.ensures (lengths c.before.before.before.before.before.before.before.before.before.before.before.before).0 (lengths c.before.before.before.before.before.before.before.before.before.before.before.before).1
 
-add-self : tie.Need-overflow-add-self
-add-self c = omega (arith, (accepts (accepted-before c.before)).whole.short)
+add-self : tie.Need-overflow_add-self
+add-self c = omega (arith, (accepts c.before.before.before.before.before.before.before).whole.short)
 
-returns-2 : tie.Need-returns-2
+returns-2 : tie.Need-returns
 returns-2 c =
-    let e = accepted-before c.before in
-    let a = (start e.before).args in
-    let u = c.before.before.before.before.before in
-    let b = u.before.bytes-of-bits in
-    let call = c.before.advance in
-    feed_answered a.self a.piece.now a.count (accepts e) b.result b.ensures u.used-bits.result e.before.feed-refusal.result
-    u.used-bits.ensures (refused e.before) e.if1.left call.new.1.1.0 call.new.1.1.1.0 call.result
+    let a = c.args in
+    let b = c.bytes_of_bits-bytes in
+    let call = c.advance-full in
+    feed_answered a.self a.piece.now a.count (accepts c.before.before.before.before.before.before.before) b.result b.ensures c.used_bits-used.result c.feed_refusal-refusal.result
+    c.used_bits-used.ensures (refused c.before.before.before.before.before.before.before.before) c.if-refusal-ne0.false call.new.state call.new.tail call.result
     call.ensures
 
-pub feed-spec : {M : Type 1} → statement M
-feed-spec =
+pub feed_spec : {M : Type 1} → statement M
+feed_spec =
     tie.close
-    (tie.spec (λ c. search rules) (λ c. search rules) (λ c κs. search rules) returns (λ c κs. search rules) (λ c κs. search rules)
-    (λ c. search rules) (λ c. search rules) (λ c. search rules) part-advance-end advance-requires add-self returns-2)
+    (tie.spec (λ c. search rules) (λ c. search rules) (λ c κs. search rules) returns (λ c κs. search rules) (λ c κs. search rules) (λ c. search rules) (λ c. search rules) (λ c. search rules) part-advance-end advance-requires add-self returns-2)

@@ -13,50 +13,38 @@ use Rattle.hash.proofs.Hash.restore.Statement.{statement}
 use Rattle.hash.proofs.Hash.restore.Tie as tie
 
 -- The place where the form is accepted, and the start from there.
-abbrev start : tie.Else1 → tie.Start
-start c = c.before.before.before
-
-whole : (c : tie.Else1) → length (current (start c).args.form.now) ≡ form_bytes (form_family (start c).args.form.now)
+whole : (c : tie.Else-refusal-ne0) → length (current c.args.form.now) ≡ form_bytes (form_family c.args.form.now)
 whole c =
-    let refusal = c.before.restore-refusal in
-    restore_size (start c).args.form.now refusal.result refusal.ensures c.if1.false
+    let refusal = c.restore_refusal-refusal in
+    restore_size c.args.form.now refusal.result refusal.ensures c.if-refusal-ne0.false
 
 -- What is asked where the block's size is known.
-abbrev accepted : tie.After-block-bytes → tie.Else1
-accepted c = c.before.before
-
-sized : (c : tie.After-block-bytes) → c.block_bytes_lem.result ≡ block_bytes (form_family (start (accepted c)).args.form.now)
+sized : (c : tie.After-block_bytes-size) → c.block_bytes-size.result ≡ block_bytes (form_family c.args.form.now)
 sized c =
-    let width = c.before.read-width in
-    block_size (start (accepted c)).args.form.now width.result c.block_bytes_lem.result width.ensures c.block_bytes_lem.ensures
+    let width = c.read_width-width in
+    block_size c.args.form.now width.result c.block_bytes-size.result width.ensures c.block_bytes-size.ensures
 
-asked : (c : tie.After-block-bytes) → let form = (start (accepted c)).args.form.now in
-    (c.block_bytes_lem.result ≡ block_bytes (form_family form)) × (c.block_bytes_lem.result ≤ 128) × (length (current form) ≡ form_bytes (form_family form))
-asked c = (sized c, omega (arith, sized c, bytes_within (form_family (start (accepted c)).args.form.now)), whole (accepted c))
+asked : (c : tie.After-block_bytes-size) → let form = c.args.form.now in
+    (c.block_bytes-size.result ≡ block_bytes (form_family form)) × (c.block_bytes-size.result ≤ 128) × (length (current form) ≡ form_bytes (form_family form))
+asked c = (sized c, omega (arith, sized c, bytes_within (form_family c.args.form.now)), whole c.before.before)
 
-read-width-requires : tie.Need-read-width-requires
-read-width-requires c κs = omega (arith, at_least (start c).args.form.now (whole c))
+read-width-requires : tie.Need-read_width-width-requires
+read-width-requires c κs = omega (arith, at_least c.args.form.now (whole c))
 
-returns : tie.Need-returns
+returns : tie.Need-returns-then-refusal-ne0
 returns c =
-    let refusal = c.before.before.restore-refusal in
-    restore_refused c.before.before.before.before.args.form.now c.zero-hash.result refusal.result c.zero-hash.ensures
-    refusal.ensures c.before.if1.true
+    let refusal = c.restore_refusal-refusal in
+    restore_refused c.args.form.now c.zero_hash-hash.result refusal.result c.zero_hash-hash.ensures
+    refusal.ensures c.if-refusal-ne0.true
 
-returns-2 : tie.Need-returns-2
+returns-2 : tie.Need-returns
 returns-2 c =
-    let state = c.before in
-    let bits = state.before in
-    let size = bits.before in
-    let width = size.before in
-    let e = width.before in
-    let refusal = e.before.restore-refusal in
-    restore_answered (start e).args.form.now refusal.result refusal.ensures e.if1.false width.read-width.result bits.form_bits_lem.result
-    state.form-state.result c.form_tail.result width.read-width.ensures bits.form_bits_lem.ensures state.form-state.ensures
-    c.form_tail.ensures
+    let refusal = c.restore_refusal-refusal in
+    restore_answered c.args.form.now refusal.result refusal.ensures c.if-refusal-ne0.false c.read_width-width.result c.form_bits-bits.result
+    c.form_state-state.result c.form_tail-tail.result c.read_width-width.ensures c.form_bits-bits.ensures c.form_state-state.ensures
+    c.form_tail-tail.ensures
 
-pub restore-spec : {M : Type 1} → statement M
-restore-spec =
+pub restore_spec : {M : Type 1} → statement M
+restore_spec =
     tie.close
-    (tie.spec (λ c κs. search rules) (λ c κs. search rules) returns read-width-requires (λ c κs. search rules) (λ c κs. asked c)
-    (λ c κs. asked c.before) (λ c κs. asked c.before.before) returns-2)
+    (tie.spec (λ c κs. search rules) (λ c κs. search rules) returns read-width-requires (λ c κs. search rules) (λ c κs. asked c) (λ c κs. asked c.before) (λ c κs. asked c.before.before) returns-2)

@@ -7,8 +7,8 @@ use Rattle.hash.proofs.Hash.store.Tie as tie
 returns : tie.Need-returns
 unfolding store_answer
 returns c =
-    let call = c.before.before.write-stored in
-    let self = c.before.before.before.before.before.args.self in
+    let call = c.write_stored-refusal in
+    let self = c.args.self in
     ((λ i. record { hash = self; refusal = call.ensures.0 i }), call.ensures.1)
 
 pub store_spec : {M : Type 1} → statement M

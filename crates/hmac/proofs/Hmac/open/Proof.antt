@@ -13,72 +13,51 @@ use Rattle.hmac.proofs.Hmac.open.Statement.{statement}
 use Rattle.hmac.proofs.Hmac.open.Tie as tie
 
 -- The start from the place after the check, and the place where the block's size is known.
-abbrev start : tie.After-key-refusal → tie.Start
-start c = c.before.before
-
-abbrev measured : tie.After-mask2 → tie.After-block-bytes
-measured c = c.before.before.before
-
-abbrev masked-before : tie.After-begin → tie.After-mask2
-masked-before c = c.before.before.before
-
-accepted : (c : tie.Else1) → let a = (start c.before).args in Accepted a.width a.key.now
+accepted : (c : tie.Else-refusal-ne0) → let a = c.args in Accepted a.width a.key.now
 accepted c =
-    let a = (start c.before).args in
-    let refusal = c.before.key-refusal in
-    open_accepted a.width a.key.now refusal.result refusal.ensures c.if1.false
+    let a = c.args in
+    let refusal = c.key_refusal-refusal in
+    open_accepted a.width a.key.now refusal.result refusal.ensures c.if-refusal-ne0.false
 
-returns : tie.Need-returns
+returns : tie.Need-returns-then-refusal-ne0
 returns c =
-    let k = c.before.before in
-    let a = (start k).args in
-    open_refused a.width a.key.now k.key-refusal.result k.key-refusal.ensures c.before.if1.true c.none.ensures
+    let a = c.args in
+    open_refused a.width a.key.now c.key_refusal-refusal.result c.key_refusal-refusal.ensures c.if-refusal-ne0.true c.none.ensures
 
-key-block-requires : tie.Need-key-block-requires
+key-block-requires : tie.Need-key_block-block-requires
 key-block-requires c κs = ((accepted c.before).known, (accepted c.before).short)
 
-small : (b : tie.After-block-bytes) → b.block_bytes_lem.result ≤ 128
-small b = omega (arith, b.block_bytes_lem.ensures, bytes_within (family_of (start b.before.before).args.width))
+small : (b : tie.After-block_bytes-size) → b.block_bytes-size.result ≤ 128
+small b = omega (arith, b.block_bytes-size.ensures, bytes_within (family_of b.args.width))
 
 -- The masked blocks are 128 bytes.
-long : (m : tie.After-mask2) → (length m.before.mask.result ≡ 128) × (length m.mask2.result ≡ 128)
+long : (m : tie.After-mask-outer_block) → (length m.mask-inner_block.result ≡ 128) × (length m.mask-outer_block.result ≡ 128)
 long m = (search rules, search rules)
 
 -- A part of a block is as long as a block may be.
 front : (n : ℕ) (l : List ℕ) → n ≤ 128 → length (take (n - 0) l) ≤ 128
 front n l short = omega (arith, length-take (n - 0) l)
 
-begin-requires : tie.Need-begin-requires
+begin-requires : tie.Need-begin-inner-requires
 begin-requires c κs =
-    let m = c.before.before in
-    let b = measured m in
-    ((accepted b.before).known, front b.block_bytes_lem.result m.before.mask.result (small b))
+    ((accepted c.before.before.before.before.before).known, front c.block_bytes-size.result c.mask-inner_block.result (small c.before.before.before.before))
 
-begin-requires-2 : tie.Need-begin-requires-2
+begin-requires-2 : tie.Need-begin-outer-requires
 begin-requires-2 c κs =
-    let m = masked-before c.before.before in
-    let b = measured m in
-    ((accepted b.before).known, front b.block_bytes_lem.result m.mask2.result (small b))
+    ((accepted c.before.before.before.before.before.before.before).known, front c.block_bytes-size.result c.mask-outer_block.result (small c.before.before.before.before.before.before))
 
-returns-2 : tie.Need-returns-2
+returns-2 : tie.Need-returns
 returns-2 c =
-    let first = c.before.before.before in
-    let m = masked-before first in
-    let b = measured m in
-    let e = b.before in
-    let a = (start e.before).args in
-    let r = e.before.key-refusal in
-    let block = m.before.before.key-block.ensures in
-    open_answered a.width a.key.now r.result r.ensures e.if1.left
-    (begun_with a.width a.key.now r.result r.ensures ipad b.block_bytes_lem.result block m.before.mask.ensures b.block_bytes_lem.ensures
-    first.begin.ensures)
-    (begun_with a.width a.key.now r.result r.ensures opad b.block_bytes_lem.result block m.mask2.ensures b.block_bytes_lem.ensures
-    c.begin2.ensures)
+    let a = c.args in
+    let r = c.key_refusal-refusal in
+    let block = c.key_block-block.ensures in
+    open_answered a.width a.key.now r.result r.ensures c.if-refusal-ne0.false
+    (begun_with a.width a.key.now r.result r.ensures ipad c.block_bytes-size.result block c.mask-inner_block.ensures c.block_bytes-size.ensures
+    c.begin-inner.ensures)
+    (begun_with a.width a.key.now r.result r.ensures opad c.block_bytes-size.result block c.mask-outer_block.ensures c.block_bytes-size.ensures
+    c.begin-outer.ensures)
 
 pub open_spec : {M : Type 1} → statement M
 open_spec =
     tie.close
-    (tie.spec (λ c κs. search rules) (λ c κs. search rules) returns (λ c κs. search rules) key-block-requires (λ c κs. search rules)
-    (λ c κs. search rules) (λ c. search rules) (λ c. search rules) (λ c. omega (arith, small (measured c.before), long c.before)) begin-requires
-    (λ c. search rules)
-    (λ c. search rules) (λ c. omega (arith, small (measured (masked-before c.before)), long (masked-before c.before))) begin-requires-2 returns-2)
+    (tie.spec (λ c κs. search rules) (λ c κs. search rules) returns (λ c κs. search rules) key-block-requires (λ c κs. search rules) (λ c κs. search rules) (λ c. search rules) (λ c. search rules) (λ c. omega (arith, small c.before.before.before, long c)) begin-requires (λ c. search rules) (λ c. search rules) (λ c. omega (arith, small c.before.before.before.before.before, long c.before.before)) begin-requires-2 returns-2)

@@ -12,57 +12,38 @@ use Rattle.hmac.proofs.Storing.{front_refused, back_refused, not_keyed, both_res
 use Rattle.hmac.proofs.Hmac.restore.Statement.{statement}
 use Rattle.hmac.proofs.Hmac.restore.Tie as tie
 
-abbrev start : tie.After-restore → tie.Start
-start c = c.before.before.before
-
-one : (c : tie.After-restore) → c.restore.result ≡ restored (front (start c).args.form.now)
+one : (c : tie.After-restore-front) → c.restore-front.result ≡ restored (front c.args.form.now)
 unfolding front
 one c =
-    let form = (start c).args.form.now in
+    let form = c.args.form.now in
     let half : length form / 2 - 0 ≡ length form / 2 = omega arith in
-    c.restore.ensures ∙ ap (λ (n : ℕ). restored (take n form)) half
+    c.restore-front.ensures ∙ ap (λ (n : ℕ). restored (take n form)) half
 
-abbrev first : tie.After-restore2 → tie.After-restore
-first c = c.before.before.before
-
-two : (c : tie.After-restore2) → c.restore2.result ≡ restored (back (start (first c)).args.form.now)
+two : (c : tie.After-restore-back) → c.restore-back.result ≡ restored (back c.args.form.now)
 unfolding back
 two c =
-    let form = (start (first c)).args.form.now in
-    c.restore2.ensures ∙ ap restored (back-part (length form / 2) form)
+    let form = c.args.form.now in
+    c.restore-back.ensures ∙ ap restored (back-part (length form / 2) form)
 
-returns : tie.Need-returns
+returns : tie.Need-returns-then-refused-ne0
 returns c =
-    let r = c.before.before in
-    front_refused (start r).args.form.now (one r) c.before.if1.true c.none.ensures
+    front_refused c.args.form.now (one c.before.before) c.if-refused-ne0.true c.none.ensures
 
-returns-2 : tie.Need-returns-2
+returns-2 : tie.Need-returns-then-refusal-ne0
 returns-2 c =
-    let r = c.before.before in
-    let f = first r in
-    back_refused (start f).args.form.now (one f) r.before.before.if1.false (two r) c.before.if2.true c.none2.ensures
+    back_refused c.args.form.now (one c.before.before.before.before.before) c.if-refused-ne0.false (two c.before.before) c.if-refusal-ne0.true c.none-then-refusal-ne0.ensures
 
-returns-3 : tie.Need-returns-3
+returns-3 : tie.Need-returns-then-not-is_keyed
 returns-3 c =
-    let k = c.before.before in
-    let e = k.before.before.before in
-    let r = e.before in
-    let f = first r in
-    not_keyed (start f).args.form.now (one f) r.before.before.if1.false (two r) e.if2.false
-    (sym k.is-keyed.ensures ∙ not-true k.is-keyed.result c.before.if3.true) c.none3.ensures
+    not_keyed c.args.form.now (one c.before.before.before.before.before.before.before.before.before) c.if-refused-ne0.false (two c.before.before.before.before.before.before) c.if-refusal-ne0.false
+    (sym c.is_keyed.ensures ∙ c.if-not-is_keyed.true) c.none-then-not-is_keyed.ensures
 
-returns-4 : tie.Need-returns-4
+returns-4 : tie.Need-returns
 returns-4 c =
-    let k = c.before in
-    let e = k.before.before.before in
-    let r = e.before in
-    let f = first r in
-    both_restored (start f).args.form.now (one f) r.before.before.if1.false (two r) e.if2.false
-    (sym k.is-keyed.ensures ∙ not-false k.is-keyed.result c.if3.false)
+    both_restored c.args.form.now (one c.before.before.before.before.before.before.before.before) c.if-refused-ne0.false (two c.before.before.before.before.before) c.if-refusal-ne0.false
+    (sym c.is_keyed.ensures ∙ c.if-not-is_keyed.false)
 
-pub restore-spec : {M : Type 1} → statement M
-restore-spec =
+pub restore_spec : {M : Type 1} → statement M
+restore_spec =
     tie.close
-    (tie.spec (λ c. search rules) (λ c. search rules) (λ c. search rules) (λ c κs. search rules) (λ c κs. search rules) returns
-    (λ c. search rules) (λ c. search rules) (λ c. search rules) (λ c κs. search rules) (λ c κs. search rules) returns-2
-    (λ c κs. search rules) (λ c κs. search rules) returns-3 returns-4)
+    (tie.spec (λ c. search rules) (λ c. search rules) (λ c. search rules) (λ c κs. search rules) (λ c κs. search rules) returns (λ c. search rules) (λ c. search rules) (λ c. search rules) (λ c κs. search rules) (λ c κs. search rules) returns-2 (λ c κs. search rules) (λ c κs. search rules) returns-3 returns-4)

@@ -13,62 +13,46 @@ use Rattle.hmac.proofs.Storing.{store_refused, store_facts, stored_length, store
 use Rattle.hmac.proofs.Hmac.store.Statement.{statement}
 use Rattle.hmac.proofs.Hmac.store.Tie as tie
 
-abbrev start : tie.After-form-bytes → tie.Start
-start c = c.before.before.before.before
-
-abbrev accepted : tie.After-slice-known2 → tie.Else1
-accepted c = c.before.before.before.before
-
 long : (s : tie.Start) → Long s.args.self.inner × Long s.args.self.outer
 long s = (record { words = search rules; bytes = search rules }, record { words = search rules; bytes = search rules })
 
-small : (c : tie.After-form-bytes) → c.form-bytes.result ≤ 266
-small c = omega (arith, c.form-bytes.ensures, bytes_within (family_of (width (start c).args.self)))
+small : (c : tie.After-form_bytes-half) → c.form_bytes-half.result ≤ 266
+small c = omega (arith, c.form_bytes-half.ensures, bytes_within (family_of (width c.args.self)))
 
-facts : (c : tie.Else1) → let f = c.before.before in
-    let a = (start f).args in IsKeyed a.self.inner a.self.outer × (2 * f.form-bytes.result ≤ length a.out.now)
+facts : (c : tie.Else-refusal-ne0) → let a = c.args in IsKeyed a.self.inner a.self.outer × (2 * c.form_bytes-half.result ≤ length a.out.now)
 facts c =
-    let o = c.before.output-refusal in
-    let f = c.before.before in
-    let a = (start f).args in
-    store_facts a.self a.out.now o.result f.form-bytes.result f.form-bytes.ensures o.ensures c.if1.false
+    let o = c.output_refusal-refusal in
+    let a = c.args in
+    store_facts a.self a.out.now o.result c.form_bytes-half.result c.form_bytes-half.ensures o.ensures c.if-refusal-ne0.false
 
 -- The output after the inner form is as long as before.
-kept : (c : tie.After-slice-known2) → length c.before.before.store.new.1.0 ≡ length (start (accepted c).before.before).args.out.now
+kept : (c : tie.After-slice_known-2-1) → length c.store.new.out ≡ length c.args.out.now
 kept c =
-    let e = accepted c in
-    let o = e.before.output-refusal in
-    let f = e.before.before in
-    let a = (start f).args in
-    let l = long (start f) in
-    stored_length a.self a.out.now o.result f.form-bytes.result f.form-bytes.ensures o.ensures e.if1.left l.0 l.1
-    c.before.before.store.ensures.1
+    let o = c.output_refusal-refusal in
+    let a = c.args in
+    let l = long c.before.before.before.before.before.before.before.before.before.before in
+    stored_length a.self a.out.now o.result c.form_bytes-half.result c.form_bytes-half.ensures o.ensures c.if-refusal-ne0.false l.0 l.1
+    c.store.ensures.1
 
-returns : tie.Need-returns
+returns : tie.Need-returns-then-refusal-ne0
 returns c =
-    let o = c.before.output-refusal in
-    let f = c.before.before in
-    let a = (start f).args in
-    store_refused a.self a.out.now o.result f.form-bytes.result f.form-bytes.ensures o.ensures c.if1.true
+    let o = c.output_refusal-refusal in
+    let a = c.args in
+    store_refused a.self a.out.now o.result c.form_bytes-half.result c.form_bytes-half.ensures o.ensures c.if-refusal-ne0.true
 
-within : (c : tie.After-slice-known2) → (accepted c).before.before.form-bytes.result ≤ length c.before.before.store.new.1.0
-within c = omega (arith, kept c, (facts (accepted c)).1)
+within : (c : tie.After-slice_known-2-1) → c.form_bytes-half.result ≤ length c.store.new.out
+within c = omega (arith, kept c, (facts c.before.before.before.before).1)
 
-returns-2 : tie.Need-returns-2
+returns-2 : tie.Need-returns
 returns-2 c =
-    let two = c.before.before in
-    let k = two.before.before in
-    let one = k.before.before.store in
-    let e = accepted k in
-    let o = e.before.output-refusal in
-    let f = e.before.before in
-    let a = (start f).args in
-    let l = long (start f) in
-    store_answered a.self a.out.now o.result f.form-bytes.result f.form-bytes.ensures o.ensures e.if1.left l.0 l.1
-    one.ensures.1 two.store2.ensures.1
+    let one = c.store in
+    let o = c.output_refusal-refusal in
+    let a = c.args in
+    let l = long c.before.before.before.before.before.before.before.before.before.before.before.before.before.before in
+    store_answered a.self a.out.now o.result c.form_bytes-half.result c.form_bytes-half.ensures o.ensures c.if-refusal-ne0.false l.0 l.1
+    one.ensures.1 c.store-2.ensures.1
 
 pub store_spec : {M : Type 1} → statement M
 store_spec =
     tie.close
-    (tie.spec (λ c κs. search rules) (λ c. omega (arith, small c)) (λ c κs. search rules) returns (λ c κs. search rules) within within
-    (λ c. search rules) (λ c κs. search rules) (λ c. search rules) returns-2)
+    (tie.spec (λ c κs. search rules) (λ c. omega (arith, small c)) (λ c κs. search rules) returns (λ c κs. search rules) within within (λ c. search rules) (λ c κs. search rules) (λ c. search rules) returns-2)

@@ -10,27 +10,27 @@ use Rattle.iteration.proofs.BlockLaws.{one_more}
 use Rattle.iteration.proofs.large.compress_blocks.Statement.{statement}
 use Rattle.iteration.proofs.large.compress_blocks.Tie as tie
 
-abbrev invariant-loop : tie.invariant-loop
+abbrev invariant-loop : tie.invariant-loop-k
 invariant-loop state₀ bytes count roots unread₀ k₀ state unread k = (k ≤ count) × (state ≡ chain large state₀ (bits_of bytes) k)
 
-abbrev decreases-loop : tie.decreases-loop
+abbrev decreases-loop : tie.decreases-loop-k
 decreases-loop state₀ bytes count roots unread₀ k₀ state unread k = count - k
 
-loop-holds : tie.Need-loop-init invariant-loop decreases-loop
+loop-holds : tie.Need-loop-k-init invariant-loop decreases-loop
 unfolding chain
 loop-holds c = (zero-le, refl)
 
-compress-block-requires : tie.Need-compress-block-requires invariant-loop decreases-loop
-compress-block-requires c κs = (omega arith, c.before.before.before.before.before.requires.1)
+compress-block-requires : tie.Need-compress_block-requires invariant-loop decreases-loop
+compress-block-requires c κs = (omega arith, c.requires.1)
 
-loop-again : tie.Need-loop-preserved invariant-loop decreases-loop
-loop-again c = (omega arith, one_more large _ _ _ c.compress-block.ensures c.before.before.before.before.loop.invariant.1)
+loop-again : tie.Need-loop-k-preserved invariant-loop decreases-loop
+loop-again c = (omega arith, one_more large _ _ _ c.compress_block.ensures c.loop-k.invariant.1)
 
 returns : tie.Need-returns invariant-loop decreases-loop
 returns c =
-    let all : c.before.loop.k ≡ c.before.before.before.args.count = omega arith in
-    c.before.loop.invariant.1 ∙ ap (chain large _ _) all
+    let all : c.loop-k.k ≡ c.args.count = omega arith in
+    c.loop-k.invariant.1 ∙ ap (chain large _ _) all
 
-pub compress-blocks-spec : {M : Type 1} → statement M
-compress-blocks-spec =
+pub compress_blocks_spec : {M : Type 1} → statement M
+compress_blocks_spec =
     tie.close (tie.spec invariant-loop decreases-loop loop-holds compress-block-requires (λ c. search rules) (λ c. search rules) loop-again returns)

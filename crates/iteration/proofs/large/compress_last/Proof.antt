@@ -10,25 +10,22 @@ use Rattle.iteration.proofs.BlockLaws.{block_last, compressed_block}
 use Rattle.iteration.proofs.large.compress_last.Statement.{statement}
 use Rattle.iteration.proofs.large.compress_last.Tie as tie
 
-fill-bits-requires : tie.Need-fill-bits-requires
+fill-bits-requires : tie.Need-fill_bits-requires
 unfolding all_zero
-fill-bits-requires c κs = (omega (arith, c.before.before.requires.0), search rules, refl)
+fill-bits-requires c κs = (omega (arith, c.requires.0), search rules, refl)
 
-slice-aggregate-compress : tie.Need-slice-aggregate-compress
-slice-aggregate-compress c = sym (ap length c.before.before.before.fill-bits.ensures ∙ length_table _ _)
+slice-aggregate-compress : tie.Need-slice_bounds-compress-end
+slice-aggregate-compress c = sym (ap length c.fill_bits.ensures ∙ length_table _ _)
 
 compress-requires : tie.Need-compress-requires
 compress-requires c κs =
-    let filled = c.before.before.before.before in
-    (ap length filled.fill-bits.ensures ∙ length_table _ _, filled.before.before.before.requires.1)
+    (ap length c.fill_bits.ensures ∙ length_table _ _, c.requires.1)
 
 returns : tie.Need-returns
 returns c =
-    let filled = c.before.before.before.before.before in
-    compressed_block large _ _ _ (block_last large _ _ filled.fill-bits.ensures) c.compress.ensures
+    compressed_block large _ _ _ (block_last large _ _ c.fill_bits.ensures) c.compress.ensures
 
-pub compress-last-spec : {M : Type 1} → statement M
-compress-last-spec =
+pub compress_last_spec : {M : Type 1} → statement M
+compress_last_spec =
     tie.close
-    (tie.spec (λ c. omega (arith, c.before.requires.0)) (λ c. search rules) fill-bits-requires slice-aggregate-compress compress-requires
-    returns)
+    (tie.spec (λ c. omega (arith, c.requires.0)) (λ c. search rules) fill-bits-requires slice-aggregate-compress compress-requires returns)

@@ -5,13 +5,12 @@ use Rattle.iteration.proofs.BlockLaws.{finished}
 use Rattle.iteration.proofs.large.conclude.Statement.{statement}
 use Rattle.iteration.proofs.large.conclude.Tie as tie
 
-compress-message-requires : tie.Need-compress-message-requires
+compress-message-requires : tie.Need-compress_message-requires
 compress-message-requires c κs =
-    let made = c.before.before.before.before in
-    (made.before.before.before.requires, made.fill-roots.ensures)
+    (c.requires, c.fill_roots.ensures)
 
 returns : tie.Need-returns
-returns c = finished large _ c.finish.ensures c.before.before.before.before.compress-message.ensures
+returns c = finished large _ c.finish.ensures c.compress_message.ensures
 
-pub conclude-spec : {M : Type 1} → statement M
-conclude-spec = tie.close (tie.spec (λ c. search rules) (λ c κs. search rules) compress-message-requires (λ c κs. search rules) returns)
+pub conclude_spec : {M : Type 1} → statement M
+conclude_spec = tie.close (tie.spec (λ c. search rules) (λ c κs. search rules) compress-message-requires (λ c κs. search rules) returns)

@@ -4,11 +4,11 @@ use borrow.Author.Rules.{rules}
 use Rattle.iteration.proofs.small.absorb.Statement.{statement}
 use Rattle.iteration.proofs.small.absorb.Tie as tie
 
-compress-blocks-requires : tie.Need-compress-blocks-requires
-compress-blocks-requires c κs = (omega arith, c.before.before.before.before.fill-roots.ensures)
+compress-blocks-requires : tie.Need-compress_blocks-requires
+compress-blocks-requires c κs = (omega arith, c.fill_roots.ensures)
 
 returns : tie.Need-returns
-returns c = c.compress-blocks.ensures
+returns c = c.compress_blocks.ensures
 
-pub absorb-spec : {M : Type 1} → statement M
-absorb-spec = tie.close (tie.spec (λ c. search rules) (λ c κs. search rules) compress-blocks-requires returns)
+pub absorb_spec : {M : Type 1} → statement M
+absorb_spec = tie.close (tie.spec (λ c. search rules) (λ c κs. search rules) compress-blocks-requires returns)

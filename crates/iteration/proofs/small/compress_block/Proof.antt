@@ -6,17 +6,15 @@ use Rattle.iteration.proofs.small.compress_block.Statement.{statement}
 use Rattle.iteration.proofs.small.compress_block.Tie as tie
 
 part-requires : tie.Need-part-requires
-part-requires c κs = omega (arith, c.before.before.requires.0)
+part-requires c κs = omega (arith, c.requires.0)
 
 compress-requires : tie.Need-compress-requires
-compress-requires c κs = (c.before.part.ensures.1, c.before.before.before.before.requires.1)
+compress-requires c κs = (c.part.ensures.1, c.requires.1)
 
 returns : tie.Need-returns
 returns c =
-    let read = c.before.before in
-    let known = read.before.before in
     compressed_block small _ _ _
-    (block_whole small _ _ (λ j. (known.shared-slice-known.given j).fits) known.before.requires.0 read.part.ensures.0) c.compress.ensures
+    (block_whole small _ _ (λ j. (c.shared_slice_known-1.given j).fits) c.requires.0 c.part.ensures.0) c.compress.ensures
 
-pub compress-block-spec : {M : Type 1} → statement M
-compress-block-spec = tie.close (tie.spec (λ c. omega (arith, c.before.before.requires.0)) part-requires compress-requires returns)
+pub compress_block_spec : {M : Type 1} → statement M
+compress_block_spec = tie.close (tie.spec (λ c. omega (arith, c.requires.0)) part-requires compress-requires returns)

@@ -5,22 +5,18 @@ use Rattle.iteration.proofs.BlockLaws.{all_even, all_odd}
 use Rattle.iteration.proofs.small.compress_message.Statement.{statement}
 use Rattle.iteration.proofs.small.compress_message.Tie as tie
 
-abbrev start : tie.After-compress-blocks → tie.Start
-start c = c.before.before.before.before
+compress-blocks-requires : tie.Need-compress_blocks-requires
+compress-blocks-requires c κs = (omega (arith, c.requires.0), c.requires.1)
 
-compress-blocks-requires : tie.Need-compress-blocks-requires
-compress-blocks-requires c κs = let s = c.before.before.before in (omega (arith, s.requires.0), s.requires.1)
+compress-last-requires : tie.Need-compress_last-requires
+compress-last-requires c κs = c.requires
 
-compress-last-requires : tie.Need-compress-last-requires
-compress-last-requires c κs = (start c.before.before.before).requires
-
-returns : tie.Need-returns
+returns : tie.Need-returns-then-count-ne0
 returns c =
-    let t = c.before.before.before in
-    all_odd small _ _ _ (start t.before).requires.0 t.if1.true t.before.compress-blocks.ensures c.compress-last.ensures
+    all_odd small _ _ _ c.requires.0 c.if-count-ne0.true c.compress_blocks.ensures c.compress_last.ensures
 
-returns-2 : tie.Need-returns-2
-returns-2 c = all_even small _ _ _ (start c.before).requires.0 c.if1.false c.before.compress-blocks.ensures
+returns-2 : tie.Need-returns-else-count-ne0
+returns-2 c = all_even small _ _ _ c.requires.0 c.if-count-ne0.false c.compress_blocks.ensures
 
-pub compress-message-spec : {M : Type 1} → statement M
-compress-message-spec = tie.close (tie.spec compress-blocks-requires compress-last-requires returns returns-2)
+pub compress_message_spec : {M : Type 1} → statement M
+compress_message_spec = tie.close (tie.spec compress-blocks-requires compress-last-requires returns returns-2)

@@ -8,16 +8,15 @@ use Rattle.iteration.proofs.BlockLaws.{compressed_length}
 use Rattle.iteration.proofs.small.finish.Statement.{statement}
 use Rattle.iteration.proofs.small.finish.Tie as tie
 
-slice-aggregate-compress : tie.Need-slice-aggregate-compress
-slice-aggregate-compress c = sym (ap length c.before.before.before.length-block.ensures ∙ length_table _ _)
+slice-aggregate-compress : tie.Need-slice_bounds-compress-end
+slice-aggregate-compress c = sym (ap length c.length_block.ensures ∙ length_table _ _)
 
 compress-requires : tie.Need-compress-requires
 compress-requires c κs =
-    let made = c.before.before.before.before in
-    (ap length made.length-block.ensures ∙ length_table _ _, made.before.before.requires)
+    (ap length c.length_block.ensures ∙ length_table _ _, c.requires)
 
 returns : tie.Need-returns
-returns c = compressed_length small _ _ c.before.before.before.before.before.length-block.ensures c.compress.ensures
+returns c = compressed_length small _ _ c.length_block.ensures c.compress.ensures
 
 pub finish_spec : {M : Type 1} → statement M
 finish_spec = tie.close (tie.spec (λ c. search rules) (λ c κs. search rules) slice-aggregate-compress compress-requires returns)

@@ -11,18 +11,12 @@ use Rattle.unsteps.proofs.small.unstep.Tie as tie
 
 returns : tie.Need-returns
 returns c =
-    let read = c.before.before.before.before in
-    let lent = read.before.before.before.before.before.before in
-    let undone = lent.before.before in
-    let first = undone.before.before in
-    let p = first.before.before.args in
-    let s-is = read.rotation2.ensures.0 ∙ next_rotation p.i in
-    unstep_columns small p.i p.t5 (from_columns (p.t1 ∷ p.t2 ∷ p.t3 ∷ p.t4 ∷ [])) first.rotation.ensures.0 s-is
-    c.before.before.before.small-exchange.ensures undone.unrotate-rows.ensures c.before.unmix-rows.ensures
+    let p = c.args in
+    let s-is = c.rotation-2.ensures.0 ∙ next_rotation p.i in
+    unstep_columns small p.i p.w (from_columns (p.a ∷ p.b ∷ p.c ∷ p.d ∷ [])) c.rotation.ensures.0 s-is
+    c.small_exchange.ensures c.unrotate_rows.ensures c.unmix_rows.ensures
 
-pub unstep-spec : {M : Type 1} → statement M
-unstep-spec =
+pub unstep_spec : {M : Type 1} → statement M
+unstep_spec =
     tie.close
-    (tie.spec (λ c. search rules) (λ c κs. search rules) (λ c. search rules) (λ c κs. search rules) (λ c. search rules) (λ c. search rules)
-    (λ c. search rules) (λ c. search rules) (λ c. search rules) (λ c. search rules) (λ c. search rules) (λ c κs. search rules) (λ c κs. search rules)
-    (λ c. search rules) (λ c κs. search rules) returns)
+    (tie.spec (λ c. search rules) (λ c κs. search rules) (λ c. search rules) (λ c κs. search rules) (λ c. search rules) (λ c. search rules) (λ c. search rules) (λ c. search rules) (λ c. search rules) (λ c. search rules) (λ c. search rules) (λ c κs. search rules) (λ c κs. search rules) (λ c. search rules) (λ c κs. search rules) returns)
