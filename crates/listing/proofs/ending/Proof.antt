@@ -9,22 +9,22 @@ use borrow.Author.Rules.{rules}
 use Rattle.listing.proofs.ending.Statement.{statement}
 use Rattle.listing.proofs.ending.Tie as tie
 
-returns : tie.Need-returns
+returns : tie.Need-returns-then-number-eq0
 returns c =
-    let a = c.before.before.before.before.before.before.args in
-    let call = c.before.before.done-line in
+    let a = c.args in
+    let call = c.done_line in
     let this : done_line a.count ≡ last_line a.count a.number a.place =
-    rw (eq-eqb a.number 0 c.before.before.before.before.if1.true) in
+    rw (eq-eqb a.number 0 c.if-number-eq0.true) in
     (call.ensures.1 ∙ ap length this, call.ensures.0 ∙ ap (over a.text.now 0) this)
 
-returns-2 : tie.Need-returns-2
+returns-2 : tie.Need-returns
 returns-2 c =
-    let a = c.before.before.before.before.before.before.args in
-    let call = c.before.before.refused-line in
+    let a = c.args in
+    let call = c.refused_line in
     let this : refused_line a.number a.place ≡ last_line a.count a.number a.place =
-    rw (ne_eqb a.number 0 c.before.before.before.before.if1.false) in
+    rw (ne_eqb a.number 0 c.if-number-eq0.false) in
     (call.ensures.1 ∙ ap length this, call.ensures.0 ∙ ap (over a.text.now 0) this)
 
-pub ending-spec : {M : Type 1} → statement M
-ending-spec =
+pub ending_spec : {M : Type 1} → statement M
+ending_spec =
     tie.close (tie.spec (λ c κs. search rules) (λ c. search rules) returns (λ c κs. search rules) (λ c. search rules) returns-2)

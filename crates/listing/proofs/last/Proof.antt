@@ -10,25 +10,24 @@ use borrow.Author.Rules.{rules}
 use Rattle.listing.proofs.last.Statement.{statement}
 use Rattle.listing.proofs.last.Tie as tie
 
-returns : tie.Need-returns
+returns : tie.Need-returns-in-Taken
 returns c =
-    let a = c.before.before.before.args in
-    let told = sym c.enum_told.given.1 in (
+    let a = c.args in
+    let told = sym c.in-Taken.is in (
       ap (λ (n : Next). end_line n a.count) told,
       sym (over_nil a.text.now 0) ∙ ap (λ (n : Next). over a.text.now 0 (end_text n a.count)) told,
     )
 
-returns-2 : tie.Need-returns-2
+returns-2 : tie.Need-returns-in-Ended
 returns-2 c =
-    let call = c.before.before.ending in
-    let arm = c.before.before.before.before.before in
-    let a = arm.before.before.before.args in
-    let told = sym arm.end.given.1 in (
+    let call = c.ending-length in
+    let a = c.args in
+    let told = sym c.in-Ended.is in (
       ap (λ (k : ℕ). record { refusal = 0; length = k; next = 0; more = false }) call.ensures.0
           ∙ ap (λ (n : Next). end_line n a.count) told,
       call.ensures.1 ∙ ap (λ (n : Next). over a.text.now 0 (end_text n a.count)) told,
     )
 
-pub last-spec : {M : Type 1} → statement M
-last-spec =
+pub last_spec : {M : Type 1} → statement M
+last_spec =
     tie.close (tie.spec (λ c. search rules) (λ c. search rules) (λ c κs. search rules) returns (λ c. search rules) returns-2)

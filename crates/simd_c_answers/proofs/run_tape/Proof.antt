@@ -5,19 +5,17 @@ use borrow.Author.Rules.{rules}
 use Rattle.simd_c_answers.proofs.run_tape.Statement.{statement}
 use Rattle.simd_c_answers.proofs.run_tape.Tie as tie
 
-returns : tie.Need-returns
+returns : tie.Need-returns-then-refusal-ne0
 unfolding run_within
 returns c =
-    let ran = c.before.before.before in
-    let old = ran.before.before.before.before.args.place.now in
-    tape_refused ran.run.ensures.0 ran.run.ensures.1 old c.if1.true
+    let old = c.args.place.now in
+    tape_refused c.run-ran.ensures.0 c.run-ran.ensures.1 old c.if-refusal-ne0.true
 
-returns-2 : tie.Need-returns-2
+returns-2 : tie.Need-returns-else-refusal-ne0
 unfolding run_within
 returns-2 c =
-    let ran = c.before.before.before in
-    let old = ran.before.before.before.before.args.place.now in
-    tape_run ran.run.ensures.0 ran.run.ensures.1 old c.if1.false
+    let old = c.args.place.now in
+    tape_run c.run-ran.ensures.0 c.run-ran.ensures.1 old c.if-refusal-ne0.false
 
-pub run-tape-spec : {M : Type 1} → statement M
-run-tape-spec = tie.close (tie.spec (λ c κs. search rules) (λ c. search rules) returns (λ c. search rules) returns-2)
+pub run_tape_spec : {M : Type 1} → statement M
+run_tape_spec = tie.close (tie.spec (λ c κs. search rules) (λ c. search rules) returns (λ c. search rules) returns-2)
