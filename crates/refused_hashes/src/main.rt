@@ -3,35 +3,28 @@
 
 use hash::Hash;
 use hmac::Hmac;
-use libc::STDOUT_FILENO;
+use std::io;
 
-fn number(n: u8) {
-    io::write_all(STDOUT_FILENO, b" ");
-    io::print_decimal(STDOUT_FILENO, n as u64);
-}
-
-fn answers(name: &[u8], hash: Hash) {
+fn answers(rt: &impl Print, name: &str, hash: Hash) -> io::Result<()> {
     let piece = [0u8; 1];
     let mut digest = [0u8; 64];
     let mut form = [0u8; 266];
-    io::write_all(STDOUT_FILENO, name);
-    number(hash.feed(&piece, 0).refusal);
-    number(hash.take(&mut digest).refusal);
-    number(hash.store(&mut form).refusal);
-    io::write_all(STDOUT_FILENO, b"\n");
+    let fed = hash.feed(&piece, 0).refusal;
+    let taken = hash.take(&mut digest).refusal;
+    let stored = hash.store(&mut form).refusal;
+    println!(rt; "{name} {fed} {taken} {stored}")
 }
 
-fn keyed(name: &[u8], inner: Hash, outer: Hash) {
+fn keyed(rt: &impl Print, name: &str, inner: Hash, outer: Hash) -> io::Result<()> {
     let piece = [0u8; 1];
     let mut tag = [0u8; 64];
     let mut form = [0u8; 532];
     let hmac = Hmac { inner, outer };
-    io::write_all(STDOUT_FILENO, name);
-    number(hmac.feed(&piece, 0).refusal);
-    number(hmac.take(&mut tag).refusal);
-    number(hmac.check(&tag).refusal);
-    number(hmac.store(&mut form).refusal);
-    io::write_all(STDOUT_FILENO, b"\n");
+    let fed = hmac.feed(&piece, 0).refusal;
+    let taken = hmac.take(&mut tag).refusal;
+    let checked = hmac.check(&tag).refusal;
+    let stored = hmac.store(&mut form).refusal;
+    println!(rt; "{name} {fed} {taken} {checked} {stored}")
 }
 
 fn of(width: u16, bits: u64) -> Hash {
@@ -55,46 +48,53 @@ fn with_byte(mut hash: Hash, at: usize, byte: u8) -> Hash {
     hash
 }
 
-fn main() {
-    answers(b"width 224", of(224, 0));
-    answers(b"width 225", of(225, 0));
-    answers(b"256, word 15", with_word(of(256, 0), 15));
-    answers(b"256, word 16", with_word(of(256, 0), 16));
-    answers(b"512, word 31", with_word(of(512, 0), 31));
-    answers(b"256, bit 0 of 1", with_byte(of(256, 1), 0, 128));
-    answers(b"256, bit 1 of 1", with_byte(of(256, 1), 0, 64));
+fn main(rt: HostRuntime) -> io::Result<()> {
+    answers(&rt, "width 224", of(224, 0))?;
+    answers(&rt, "width 225", of(225, 0))?;
+    answers(&rt, "256, word 15", with_word(of(256, 0), 15))?;
+    answers(&rt, "256, word 16", with_word(of(256, 0), 16))?;
+    answers(&rt, "512, word 31", with_word(of(512, 0), 31))?;
+    answers(&rt, "256, bit 0 of 1", with_byte(of(256, 1), 0, 128))?;
+    answers(&rt, "256, bit 1 of 1", with_byte(of(256, 1), 0, 64))?;
     answers(
-        b"256, byte 63 of 64, 511 bits",
+        &rt,
+        "256, byte 63 of 64, 511 bits",
         with_byte(of(256, 511), 63, 2),
-    );
+    )?;
     answers(
-        b"256, byte 63 of 64, 504 bits",
+        &rt,
+        "256, byte 63 of 64, 504 bits",
         with_byte(of(256, 504), 63, 2),
-    );
-    answers(b"256, byte 64", with_byte(of(256, 511), 64, 128));
+    )?;
+    answers(&rt, "256, byte 64", with_byte(of(256, 511), 64, 128))?;
     answers(
-        b"512, byte 127, 1023 bits",
+        &rt,
+        "512, byte 127, 1023 bits",
         with_byte(of(512, 1023), 127, 2),
-    );
+    )?;
     answers(
-        b"512, byte 127, 1024 bits",
+        &rt,
+        "512, byte 127, 1024 bits",
         with_byte(of(512, 1024), 127, 2),
-    );
-    keyed(b"keyed 256", of(256, 512), of(256, 512));
-    keyed(b"keyed 512", of(512, 4096), of(512, 1024));
-    keyed(b"keyed 256, inner 511", of(256, 511), of(256, 512));
-    keyed(b"keyed 512, inner 1023", of(512, 1023), of(512, 1024));
-    keyed(b"keyed 256, outer 511", of(256, 512), of(256, 511));
-    keyed(b"keyed 256, outer 513", of(256, 512), of(256, 513));
-    keyed(b"keyed 256, outer 224", of(256, 512), of(224, 512));
+    )?;
+    keyed(&rt, "keyed 256", of(256, 512), of(256, 512))?;
+    keyed(&rt, "keyed 512", of(512, 4096), of(512, 1024))?;
+    keyed(&rt, "keyed 256, inner 511", of(256, 511), of(256, 512))?;
+    keyed(&rt, "keyed 512, inner 1023", of(512, 1023), of(512, 1024))?;
+    keyed(&rt, "keyed 256, outer 511", of(256, 512), of(256, 511))?;
+    keyed(&rt, "keyed 256, outer 513", of(256, 512), of(256, 513))?;
+    keyed(&rt, "keyed 256, outer 224", of(256, 512), of(224, 512))?;
     keyed(
-        b"keyed 256, inner word 16",
+        &rt,
+        "keyed 256, inner word 16",
         with_word(of(256, 512), 16),
         of(256, 512),
-    );
+    )?;
     keyed(
-        b"keyed 256, outer word 16",
+        &rt,
+        "keyed 256, outer word 16",
         of(256, 512),
         with_word(of(256, 512), 16),
-    );
+    )?;
+    Ok(())
 }

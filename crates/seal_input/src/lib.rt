@@ -1,33 +1,41 @@
-// Reads a tape from standard input.
+// Reads a tape from an input, as standard input.
 #![tactic(auto)]
 
-ghost use Rattle.std.specs.Prelude.{length};
-ghost use Rattle.seal_input.specs.Input.{Within};
+ghost use Rattle.std.specs.Prelude.{◌≡◌, ◌<◌, ◌≤◌, IfOk, length, take};
+ghost use Rattle.std.specs.Io.KnownBytes.{Consumes, IsAtEnd};
 
-use libc::STDIN_FILENO;
+use std::io;
+use std::io::{ErrorKind, Read};
 
-// The bytes read, or a read that failed.
-#[derive(Drop)]
-pub enum Input {
-    Bytes(usize),
-    Failed,
-}
-
-// Reads until the tape's room is full, the input ends or a read fails.
-pub fn read_tape(tape: &mut [u8]) -> Input
-    ensures { Within result (length tape.new) }
+// Reads until the tape's room is full, the input ends or a read fails. The bytes read come first in the tape, and where room is left no byte of the
+// input is. What the last two clauses say holds of an input whose bytes are known.
+pub fn read_tape<R: Read>(input: &mut R, tape: &mut [u8]) -> io::Result<usize>
+    ensures within { IfOk result (λ size. size ≤ length tape.new) }
+    ensures bytes { IfOk result (λ size. Consumes (R.remaining input.old) (R.remaining input.new) (take size tape.new)) }
+    ensures end { IfOk result (λ size. size < length tape.new → IsAtEnd (R.remaining input.new)) }
 {
     let mut size = 0;
     while size < tape.len() {
-        let got = libc::read(STDIN_FILENO, &mut tape[size..]);
-        if got < 0 {
-            return Input::Failed;
-        }
-        let more = io::count(got, &tape[size..]);
+        let more = read_some(input, &mut tape[size..])?;
         if more == 0 {
-            return Input::Bytes(size);
+            return Ok(size);
         }
         size += more;
     }
-    Input::Bytes(size)
+    Ok(size)
+}
+
+// One read, tried again where a signal cut it short. What the last try answers is the answer.
+fn read_some<R: Read>(input: &mut R, room: &mut [u8]) -> io::Result<usize>
+    ensures within { IfOk result (λ more. more ≤ length room.new) }
+    ensures bytes { IfOk result (λ more. Consumes (R.remaining input.old) (R.remaining input.new) (take more room.new)) }
+    ensures end { IfOk result (λ more. more ≡ 0 → 0 < length room.old → IsAtEnd (R.remaining input.new)) }
+{
+    for _ in 0..u64::MAX {
+        match input.read(room) {
+            Err(e) if e.kind() == ErrorKind::Interrupted => {}
+            answer => return answer,
+        }
+    }
+    input.read(room)
 }

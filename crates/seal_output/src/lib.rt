@@ -1,10 +1,12 @@
 // Prints a tape's listing, each line as its TAKE is met.
 #![tactic(auto)]
 
-ghost use Rattle.std.specs.Prelude.{◌≡◌, ◌≤◌, length};
-ghost use Rattle.listing.specs.Listing.{sealed, first_line};
+ghost use Rattle.std.specs.Prelude.{◌≡◌, ◌≤◌, OnOk, length};
+ghost use Rattle.std.specs.Io.KnownBytes.{Appends};
+ghost use Rattle.listing.specs.Listing.{sealed, first_line, listing};
 
-use libc::STDOUT_FILENO;
+use std::io;
+use std::io::Write;
 
 // The longest line has fewer bytes.
 fn line_room() -> [u8; 192]
@@ -13,40 +15,39 @@ fn line_room() -> [u8; 192]
     [0; 192]
 }
 
-// Writes a line of the tape's listing. Tape, place and count say which: the one from this place, after so many digests.
-fn write(tape: &[u8], at: usize, count: u32, line: &[u8]) -> bool
+// Writes a line of the tape's listing, straight out. Tape, place and count say which: the one from this place, after so many digests.
+fn write<W: Write>(out: &mut W, tape: &[u8], at: usize, count: u32, line: &[u8]) -> io::Result<()>
     requires { line.now ≡ first_line count (sealed tape.now at) }
+    ensures { OnOk result (Appends (W.contents out.old) (W.contents out.new) line.now) }
 {
-    let written = io::write_all(STDOUT_FILENO, line);
-    if !written {
-        os::fail(b"seal: standard output");
-    }
-    written
+    out.write_all(line)?;
+    out.flush()
 }
 
 // A write that fails ends it.
-fn print_lines(tape: &[u8], text: &mut [u8])
+fn print_lines<W: Write>(out: &mut W, tape: &[u8], text: &mut [u8]) -> io::Result<()>
     requires { (length tape.now ≤ 65537) × (length text.old ≡ 192) }
+    ensures { OnOk result (Appends (W.contents out.old) (W.contents out.new) (listing tape.now)) }
 {
     let mut at = 0;
     let mut count: u32 = 0;
     loop {
         let line = listing::next_line(tape, at, count, text);
         let end = line.length;
-        if !write(tape, at, count, &text[..end]) {
-            return;
-        }
+        write(out, tape, at, count, &text[..end])?;
         if !line.more {
-            return;
+            return Ok(());
         }
         at = line.next;
         count += 1;
     }
 }
 
-pub fn print(tape: &[u8])
+// The bytes of a writer whose bytes are known grow by the whole listing, unless a write fails.
+pub fn print<W: Write>(out: &mut W, tape: &[u8]) -> io::Result<()>
     requires { length tape.now ≤ 65537 }
+    ensures { OnOk result (Appends (W.contents out.old) (W.contents out.new) (listing tape.now)) }
 {
     let mut text = line_room();
-    print_lines(tape, &mut text);
+    print_lines(out, tape, &mut text)
 }

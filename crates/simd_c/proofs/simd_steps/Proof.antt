@@ -6,5 +6,5 @@ use Rattle.simd_c.proofs.simd_steps.Tie as tie
 returns : tie.Need-returns
 returns c = search rules
 
-pub simd-steps-spec : {M : Type 1} → statement M
-simd-steps-spec = tie.close (tie.spec (λ c κs. search rules) (λ c. search rules) returns)
+pub simd_steps_spec : {M : Type 1} → statement M
+simd_steps_spec = tie.close (tie.spec (λ c κs. search rules) (λ c. search rules) returns)

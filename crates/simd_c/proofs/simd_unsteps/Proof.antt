@@ -6,5 +6,5 @@ use Rattle.simd_c.proofs.simd_unsteps.Tie as tie
 returns : tie.Need-returns
 returns c = search rules
 
-pub simd-unsteps-spec : {M : Type 1} → statement M
-simd-unsteps-spec = tie.close (tie.spec (λ c κs. search rules) (λ c. search rules) returns)
+pub simd_unsteps_spec : {M : Type 1} → statement M
+simd_unsteps_spec = tie.close (tie.spec (λ c κs. search rules) (λ c. search rules) returns)
