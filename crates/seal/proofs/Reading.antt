@@ -1,10 +1,10 @@
 -- What was read of an input whose bytes are known is all of them, or as many as the room has, and either way it has the listing of all.
-use Rattle.std.proofs.Common.{◌≡◌, ℕ, ◌<◌, ◌≤◌, List, ◌++◌, None, Some, IfSome, length, take, sym, ap, ◌∙◌, subst, arith, take_all, append-nil, length-take-le}
+use Rattle.std.proofs.Common.{◌≡◌, ℕ, ◌<◌, ◌≤◌, List, ◌++◌, None, Some, IfSome, length, take, sym, ap, ◌∙◌, subst, arith, append-nil, length-take-le}
 use Rattle.std.specs.declared.option.Option.{Option}
 use Rattle.std.specs.Io.KnownBytes.{Consumes, IsAtEnd}
 use native.Mathlib.Decide.{dec_le}
 use lib.ListN.{length-append}
-use Rattle.listing.specs.Listing.{sealed, lines, listing}
+use Rattle.listing.specs.Listing.{lines, listing}
 use Rattle.listing.proofs.Lines.{sealed_long}
 
 -- Of a tape that is too long no byte counts.
