@@ -1,8 +1,8 @@
 # make             the C library, static and shared, simd.pc and seal, below target/
-# make check       the gate: proves every crate from nothing, tries every wrong program, runs all tests (.ci/run)
+# make check       the gate: proves every crate, tries every wrong program, runs all tests (.ci/run)
 # make install     puts them, simd.h and the man pages below DESTDIR and PREFIX; needs no kit once they are built
 # make uninstall   takes away what install put there
-# make clean       removes target/
+# make clean       removes target/ and what rt keeps of its proofs, crates/*/out
 
 PREFIX = /usr/local
 BINDIR = $(PREFIX)/bin
@@ -75,4 +75,4 @@ uninstall:
 	-rmdir "$(DESTDIR)$(PROGRAMDIR)"
 
 clean:
-	rm -rf target
+	rm -rf target crates/*/out

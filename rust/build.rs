@@ -1,5 +1,5 @@
 //! Links the library's archive: the one in the folder that SIMD_LIB_DIR names, else the one that
-//! `rt staticlib simd_c` writes in the repository.
+//! `tools/build simd_c` writes in the repository.
 
 use std::env;
 use std::ffi::OsString;
@@ -7,7 +7,7 @@ use std::path::{Path, PathBuf};
 
 const VARIABLE: &str = "SIMD_LIB_DIR";
 
-/// The archive's names, without `lib` and `.a`: as `rt` writes it, and as it is installed.
+/// The archive's names, without `lib` and `.a`: as it is built, and as it is installed.
 const NAMES: [&str; 2] = ["simd_c", "simd"];
 
 /// The archive's folder and name, or why there is none.
@@ -32,7 +32,7 @@ pub fn archive(
     {
         Some(name) => Ok((folder, name)),
         None => Err(format!(
-            "no libsimd_c.a or libsimd.a in {}: run `make` or `rt staticlib simd_c`, or name the \
+            "no libsimd_c.a or libsimd.a in {}: run `make` or `tools/build simd_c`, or name the \
              archive's folder by {VARIABLE}",
             folder.display()
         )),

@@ -27,55 +27,70 @@ TAPE, LISTING = b"\x05", "done 0\n"
 USAGE = "usage: seal [--help | --version] < TAPE\n"
 
 RT = r"""#!/bin/sh
+crate=${PWD##*/}
 cd "$HOME" || exit 2
-cat >/dev/null
-echo "$*" >>runs
+cat >given
+echo "$crate: $*" >>runs
 mkdir busy || { echo 'rt: two at once'; exit 2; }
 trap 'rmdir busy' EXIT
-mkdir -p target/bin target/stamp target/staticlib
-if [ -e refuse ]; then
-    echo 'rt: low proved (1 s)'
-    echo 'lib.rt:3:4: error: expected a proof'
-    echo 'rt: middle NOT PROVED (exit 1, 2 s)'
-    echo 'rt: seal NOT PROVED: its dependency middle is not proved'
-    echo 'rt: FAILED: middle seal'
-    exit 1
-fi
+[ ! -e waits ] || echo 'rt: waiting for another rt to finish in crates/low' >&2
 [ ! -e stop ] || { echo stopped >stop; sleep 60; }
-case "$1 $2" in
-'check seal')
-    if [ -e target/stamp/seal ] && [ -e unchanged ]; then
-        for name in low middle seal; do echo "rt: $name proved (unchanged since it was last proved)"; done
-    else
-        rm -f target/stamp/seal
-        echo 'rt: low proved (1 s)'
-        echo 'rt: middle proved (2 s)'
-        printf '#!/bin/sh\necho half\n' >target/bin/seal
-        chmod +x target/bin/seal
-        sleep 0.2
-        cp program target/bin/seal.new && mv target/bin/seal.new target/bin/seal
-        echo 'lib.rt:1:1: note: of no interest'
-        echo 'rt: seal proved (3 s)'
-        echo "rt: seal ran, and wrote what its file 'stdout' has (0 s)"
-        echo stamp >target/stamp/seal
+proved() { printf '== %s\nfn %s::f: proved\nlogic=proved functions=1\n' "$1" "$1"; }
+case "$crate: $*" in
+'seal: all check')
+    echo 'lib.rt:1:1: note: of no interest'
+    echo 'rt: chose 2 at a time'
+    [ ! -e unread ] || { echo 'lib.rt:1:2: error: no such word'; echo 'rt: mend these first: no library was built'; exit 1; }
+    proved low
+    if [ -e refuse ]; then
+        echo '== middle'
+        echo 'lib.rt:3:4: error: expected a proof'
+        echo 'logic=not-proved'
+        echo '== summary'
+        echo 'low: ok'
+        echo 'middle: failed (1)'
+        echo 'seal: not run, since middle failed'
+        echo '1 of 3 crates ok'
+        exit 1
     fi
-    echo 'rt: ok, 3 crates proved'
+    echo '== middle'
+    echo 'rt: middle: begins with what a check kept in /another/crates/middle'
+    proved seal
+    printf '== summary\nlow: ok\nmiddle: ok\nseal: ok\n3 of 3 crates ok\n'
     ;;
-'check low') echo 'rt: low proved (1 s)' ;;
-'staticlib middle')
-    echo 'rt: low proved (unchanged since it was last proved)'
-    echo archive >target/staticlib/libmiddle.a
+'seal: run --cpu=x86-64')
+    mkdir -p crates/seal/out
+    if [ ! -e unchanged ]; then
+        printf '#!/bin/sh\necho half\n' >crates/seal/out/seal
+        chmod +x crates/seal/out/seal
+        sleep 0.2
+        cp program crates/seal/out/seal.new && mv crates/seal/out/seal.new crates/seal/out/seal
+    fi
+    echo 'rt: running out/seal' >&2
+    crates/seal/out/seal <given
+    ;;
+'door: all check' | 'other: all check')
+    proved low
+    proved "$crate"
+    printf '== summary\nlow: ok\n%s: ok\n2 of 2 crates ok\n' "$crate"
+    ;;
+'low: all check') proved low ;;
+'door: lib --cpu=x86-64')
+    mkdir -p crates/door/out
+    echo archive >crates/door/out/libdoor.a
     [ ! -e cut ] || exit 1
-    echo 'rt: target/staticlib/libmiddle.a has the functions of middle'
+    echo 'logic=proved functions=1'
     ;;
+'low: lib --cpu=x86-64') ;;
 *) exit 2 ;;
 esac
 """
+BUILD = ["seal: all check", "seal: run --cpu=x86-64"]
 
 BUILDING = """seal: proving and building target/bin/seal; from nothing this takes some minutes
-seal: 1 of 3 crates: low proved (1 s)
-seal: 2 of 3 crates: middle proved (2 s)
-seal: 3 of 3 crates: seal proved (3 s)
+seal: 1 of 3 crates: low proved
+seal: 2 of 3 crates: middle proved
+seal: 3 of 3 crates: seal proved
 seal: target/bin/seal is built
 """
 WAITING = "seal: another build is running in this folder, waiting for it\n"
@@ -83,19 +98,21 @@ UNREADY = "seal: target/bin/seal %s, and %s is not yours to write: who may write
 
 
 class Repository:
-    """A folder with seal, tools/build, three crates and a stand-in for rt."""
+    """A folder with seal, tools/build, some crates and a stand-in for rt."""
 
     def __init__(self, room):
         self.top = os.path.join(room, "a repository")
         self.tools = os.path.join(room, "bin")
         for folder in ("tools", "crates/low/src", "crates/low/must-fail", "crates/middle/src",
-                       "crates/seal/src"):
+                       "crates/seal/src", "crates/door/src", "crates/other/src"):
             os.makedirs(os.path.join(self.top, folder))
         os.mkdir(self.tools)
         for name in ("seal", "tools/build"):
             shutil.copy(os.path.join(ROOT, name), os.path.join(self.top, name))
         shutil.copy(PROGRAM, os.path.join(self.top, "program"))
-        self.write("crates.txt", "# NAME: the crates under it\nlow:\nmiddle: low\nseal: low middle io\nother: low io\n")
+        self.write("crates.txt", "# NAME: the crates under it\nlow:\nmiddle: low\nseal: low middle io\ndoor staticlib: low\nother staticlib: low io\n")
+        self.write("crates/seal/stdin", TAPE.decode())
+        self.write("crates/seal/stdout", LISTING)
         self.write("crates/low/src/lib.rt", "")
         self.write("crates/low/must-fail/wrong.edit", "")
         self.write(os.path.join(self.tools, "rt"), RT)
@@ -167,18 +184,18 @@ def check_at_once(tally):
         said = [err for _, err, _ in answers]
         tally.equal(said.count(BUILDING), 1, "one of them builds")
         tally.equal([err for err in said if err not in (BUILDING, WAITING, "")], [], "the others wait")
-        tally.equal(r.runs(), ["check seal"], "rt is run once")
+        tally.equal(r.runs(), BUILD, "rt is run once")
 
 
 def check_when(tally):
     """It is built again if and only if a source is newer."""
     with repository() as r:
         tally.equal(r.seal(), (LISTING, BUILDING, 0), "the first build")
-        tally.equal(r.runs(), ["check seal"], "the first build")
+        tally.equal(r.runs(), BUILD, "the first build")
 
         def then(what, built, **options):
             tally.equal(r.seal(**options), (LISTING, BUILDING if built else "", 0), what)
-            tally.equal(r.runs(), ["check seal"] * built, what)
+            tally.equal(r.runs(), BUILD * built, what)
 
         then("nothing newer", False)
         then("nothing newer, and no kit", False, kit=False)
@@ -192,6 +209,13 @@ def check_when(tally):
         then("a proof put in", True)
         os.remove(r.path("crates/middle/proofs/f/Proof.antt"))
         then("a proof taken away", True)
+        r.write("crates/middle/proofs/f/Proof.antt", "")
+        then("a proof put in again", True)
+        shutil.rmtree(r.path("crates/middle/proofs"))
+        then("all proofs of a crate taken away", True)
+        os.makedirs(r.path("crates/low/out"))
+        r.write("crates/low/out/kept", "")
+        then("what rt keeps changed", False)
         r.write("crates.txt", "low:\nmiddle: low\nseal: low middle\n")
         then("crates.txt changed", True)
         shutil.rmtree(r.path("target"))
@@ -201,7 +225,7 @@ def check_when(tally):
         r.write("unchanged", "")
         os.utime(r.path("crates/low/src/lib.rt"))
         tally.equal(r.seal()[::2], (LISTING, 0), "the same source at a later time")
-        tally.equal(r.runs(), ["check seal"], "the same source at a later time")
+        tally.equal(r.runs(), BUILD, "the same source at a later time")
         then("the same source, once more", False)
 
         spent = []
@@ -219,11 +243,13 @@ def check_failures(tally):
                     "no kit")
         r.write("refuse", "")
         refused = """seal: proving and building target/bin/seal; from nothing this takes some minutes
-seal: 1 of 3 crates: low proved (1 s)
+seal: 1 of 3 crates: low proved
+== middle
 lib.rt:3:4: error: expected a proof
-rt: middle NOT PROVED (exit 1, 2 s)
-rt: seal NOT PROVED: its dependency middle is not proved
-rt: FAILED: middle seal
+logic=not-proved
+middle: failed (1)
+seal: not run, since middle failed
+1 of 3 crates ok
 seal: target/bin/seal is not built
 """
         tally.equal(r.seal(), ("", refused, 2), "not proved")
@@ -234,6 +260,27 @@ seal: target/bin/seal is not built
         for what in ("a wrong source", "a wrong source, once more"):
             tally.equal(r.seal(), ("", refused, 2), what + ": the program of before is not run")
         os.remove(r.path("refuse"))
+        begins, built = BUILDING.splitlines(True)[0], BUILDING.splitlines(True)[-1]
+        r.write("unread", "")
+        tally.equal(r.seal(), ("", begins + """lib.rt:1:1: note: of no interest
+rt: chose 2 at a time
+lib.rt:1:2: error: no such word
+rt: mend these first: no library was built
+seal: target/bin/seal is not built
+""", 2), "a source that is not read")
+        os.remove(r.path("unread"))
+        r.write("crates/seal/stdout", "done 1\n")
+        tally.equal(r.seal(), ("", BUILDING.replace(built, """rt: running out/seal
+what seal wrote is not what its file stdout has
+seal: target/bin/seal is not built
+"""), 2), "a program that writes something else than it is to")
+        r.write("crates/seal/stdout", LISTING)
+        r.write("waits", "")
+        waits = "rt: waiting for another rt to finish in crates/low\n"
+        tally.equal(r.seal(), (LISTING, begins + waits + BUILDING[len(begins):-len(built)] + waits + built, 0),
+                    "rt waits, and the program is built after that")
+        os.remove(r.path("waits"))
+        r.write("crates/low/src/lib.rt", "changed")
 
         # A build that is interrupted leaves nothing that passes for built, and no lock.
         r.write("stop", "")
@@ -318,21 +365,22 @@ def check_archive(tally):
             tally.equal(r.seal(*arguments, command=r.path("tools/build"), tape=b""), expected, what)
             tally.equal(r.runs(), runs, what)
 
-        build("an archive", ("", """middle: proving and building target/staticlib/libmiddle.a; from nothing this takes some minutes
-middle: 1 of 2 crates: low proved (1 s)
-middle: 2 of 2 crates: middle proved
-middle: target/staticlib/libmiddle.a is built
-""", 0), ["check low", "staticlib middle"], "middle")
-        build("an archive that is built", ("", "", 0), [], "middle")
+        runs = ["door: all check", "door: lib --cpu=x86-64"]
+        build("an archive", ("", """door: proving and building target/staticlib/libdoor.a; from nothing this takes some minutes
+door: 1 of 2 crates: low proved
+door: 2 of 2 crates: door proved
+door: target/staticlib/libdoor.a is built
+""", 0), runs, "door")
+        build("an archive that is built", ("", "", 0), [], "door")
         r.write("cut", "")
         r.write("crates/low/src/lib.rt", "changed")
         for what in ("an archive half written", "an archive half written, once more"):
-            tally.equal(r.seal("middle", command=r.path("tools/build"), tape=b"")[2], 2, what)
-            tally.equal(r.runs(), ["check low", "staticlib middle"], what)
+            tally.equal(r.seal("door", command=r.path("tools/build"), tape=b"")[2], 2, what)
+            tally.equal(r.runs(), runs, what)
         os.remove(r.path("cut"))
-        for name, runs in (("low", ["staticlib low"]), ("other", ["check low", "staticlib other"])):
-            tally.equal(r.seal(name, command=r.path("tools/build"), tape=b"")[2], 2, "an archive that rt refuses")
-            tally.equal(r.runs(), runs, "crates under %s" % name)
+        for name, what in (("low", "a library that is no archive"), ("other", "an archive that rt refuses")):
+            tally.equal(r.seal(name, command=r.path("tools/build"), tape=b"")[2], 2, what)
+            tally.equal(r.runs(), ["%s: all check" % name, "%s: lib --cpu=x86-64" % name], what)
         build("no such crate", ("", "none: crates.txt lists no such crate\n", 2), [], "none")
         build("no product named", ("", "usage: tools/build seal | NAME\n", 2), [])
 

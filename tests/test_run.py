@@ -235,24 +235,63 @@ LOGS = (("", "", "unknown"),
         ("note: a:1:2: it is not proved that n is 3\nfn x::f: no proof: no file; `search` does not close `returns`\n", "", "fact"))
 
 
+# What rt says of an edit, and the status of a report on it.
+SAID = (("refused, as it must be: " + LOGS[1][0].strip(), 0),
+        ("NOT REFUSED: the crate is still proved with this edit (one that means the same as before cannot be refused: remove it)", 1),
+        ("NOT TRIED: its check was killed, most likely for memory, so nothing is known of it: run this again", 1),
+        ("BAD EDIT: an 'old:' text is in src/lib.rt 0 times, and not once", 1),
+        ("refused, as it must be", 1),
+        ("refused, as it must be: " + LOGS[2][0].strip(), 1),
+        ("refused, as it must be (only because a proof file names what the edit took away, so this says little of the contract: "
+         "change a value and keep the names): " + LOGS[1][0].strip(), 1),
+        ("refused, as it must be (only by a limit of the prover, which gave no verdict, so this says less of the contract: choose a "
+         "change that it refuses sooner): " + LOGS[1][0].strip(), 1))
+# An error that does not tell, what rt check then says in the copy, and the status: which edit is tried there is seen by the stand-in.
+RESTS = "refused, as it must be: proofs/f/Proof.antt:1:2: error: 2 declarations that depend on `g`, which was rejected, were not checked"
+AGAIN = ((LOGS[1][0], 0), (LOGS[2][0], 1), ("", 1))
+CHECK = r"""#!/bin/sh
+[ "$* ${PWD##*/} $(cat src/lib.rt)" = "check x  a wrong body" ] && printf '%s' "$SAID"
+exit 1
+"""
+
+
 def check_report(tally):
     """How .ci/report takes the logs of refused edits, and its status."""
     report = load(os.path.join(ROOT, ".ci", "report"))
     for log, edit, kind in LOGS:
         tally.equal(report.judged(log, edit)[0], kind, "a refusal: %r" % log[:60])
-    for word, log, status in (("refused", LOGS[1][0], 0), ("survived", LOGS[1][0], 1), ("refused", LOGS[0][0], 1),
-                              ("refused", LOGS[2][0], 1), ("refused", None, 1)):
-        with tempfile.TemporaryDirectory() as room:
-            for folder in ("crates/x/must-fail", "target/must-fail/x/label", ".ci"):
-                os.makedirs(os.path.join(room, folder))
-            for name, text in (("crates/x/must-fail/label.edit", "A wrong program.\n"), ("target/must-fail/x/label.res", word + "\n"),
-                               ("target/must-fail/x/label/.log", log)):
-                if text is not None:
-                    with open(os.path.join(room, name), "w", encoding="utf-8") as f:
-                        f.write(text)
-            shutil.copy(os.path.join(ROOT, ".ci", "report"), os.path.join(room, ".ci"))
-            done = subprocess.run([sys.executable, "-B", os.path.join(room, ".ci", "report"), "refusals"], stdout=subprocess.PIPE, text=True)
-            tally.equal((done.returncode, done.stdout.count("\n")), (status, 2), "the status of a report: %s, %r" % (word, log))
+    with tempfile.TemporaryDirectory() as room:
+        for folder in ("crates/x/must-fail", "crates/x/src", ".ci", "bin"):
+            os.makedirs(os.path.join(room, folder))
+        for name, text in (("crates/x/must-fail/label.edit", "A wrong program.\nfile: src/lib.rt\nold: right\nnew:  a wrong\n"),
+                           ("crates/x/src/lib.rt", "right body\n"), ("crates.txt", "x:\n"), ("bin/rt", CHECK)):
+            with open(os.path.join(room, name), "w", encoding="utf-8") as f:
+                f.write(text)
+        os.chmod(os.path.join(room, "bin", "rt"), 0o755)
+        shutil.copy(os.path.join(ROOT, ".ci", "report"), os.path.join(room, ".ci"))
+
+        def reported(*arguments, said="", again=""):
+            """(standard output, status) of .ci/report on a log in which this is said of the edit."""
+            with open(os.path.join(room, "log"), "w", encoding="utf-8") as f:
+                f.write("== x\n" + "rt: must-fail x/label.edit: %s\n" % said * bool(said) + "3 passed, 0 failed\n")
+            done = subprocess.run([sys.executable, "-B", os.path.join(room, ".ci", "report"), *arguments], stdout=subprocess.PIPE, text=True,
+                                  env=dict(os.environ, SAID=again, PATH=os.path.join(room, "bin") + ":" + os.environ["PATH"]), cwd=room,
+                                  stderr=subprocess.DEVNULL)
+            return done.stdout, done.returncode
+
+        for said, status in SAID:
+            out, ended = reported("refusals", "log", said=said)
+            tally.equal((ended, out.count("\n")), (status, 2), "the status of a report: %r" % said[:60])
+            tally.equal(reported("refusals", "log", "--try", said=said)[1], status, "the same, with --try: %r" % said[:60])
+        tally.equal(reported("refusals", "log", said=RESTS)[1], 1, "an error that does not tell")
+        for again, status in AGAIN:
+            tally.equal(reported("refusals", "log", "--try", said=RESTS, again=again)[1], status, "the edit tried again: %r" % again[:60])
+        with open(os.path.join(room, "crates/x/src/lib.rt"), encoding="utf-8") as f:
+            tally.equal(f.read(), "right body\n", "a try leaves the crate as it is")
+        tally.equal(reported("edits", "log", said=SAID[0][0]), ("x/label  %s\n" % LOGS[1][0].strip(), 0), "where edits were refused")
+        tally.equal((reported("refusals", "log"), reported("edits", "log")), (("", 1), ("", 1)), "a log without edits")
+        for arguments in ([], ["times", "log"], ["refusals"], ["refusals", "log", "--all"], ["edits"]):
+            tally.equal(reported(*arguments, said=SAID[0][0]), ("", 2), "arguments %r" % arguments)
 
 
 def main():
@@ -288,6 +327,11 @@ def main():
     tally.equal(gate((bad, good)), ("5 passed, 1 failed", 1), "the gate: a proof failed")
     tally.equal(gate((good, ("broken\\n", 0))), ("3 passed, 1 failed", 1), "the gate: a part without a count")
     tally.equal(gate((("3 passed, 0 failed\\n", 1), good)), ("6 passed, 1 failed", 1), "the gate: a status of 1")
+    ok = "rt: ok; handles allowed: none; must-fail edits: 5 refused%s; every proof and must-fail edit was done in this run\\n"
+    for lost, failed in (("", 0), (", 1 of them only by a limit", 0), (", 1 bad", 1), (", 2 of them only by a limit, 12 bad", 12)):
+        tally.equal(gate(((ok % lost + good[0], 0), good)), ("6 passed, %d failed" % failed, int(failed > 0)), "the gate: edits%s" % lost)
+    tally.equal(gate((("3 passed, 0 failed (x and the crates below alone: not the gate)\\n", 0), good)), ("3 passed, 1 failed", 1),
+                "the gate: not all crates")
     tally.equal(gate((("0 passed, 0 failed\\n", 0),) * 2), ("0 passed, 0 failed", 1), "the gate: nothing run")
     with open("Makefile", encoding="utf-8") as f:
         tally.equal("\ncheck:\n\t.ci/run\n" in f.read(), True, "make check is .ci/run")
