@@ -45,6 +45,8 @@ case "$crate: $*" in
     if [ -e refuse ]; then
         echo '== middle'
         echo 'lib.rt:3:4: error: expected a proof'
+        echo 'statements std: modules loaded=5 checked=0'
+        echo 'library low: modules loaded=25 checked=0'
         echo 'logic=not-proved'
         echo '== summary'
         echo 'low: ok'
