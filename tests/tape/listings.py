@@ -65,11 +65,11 @@ def made_anew(path):
 
 
 def shipped():
-    """The files in which a listing may stand; not what a user leaves beside them."""
+    """The files in which a listing may stand; not what a user, or rt in out/, leaves beside them."""
     yield from ("README.md", "CHANGELOG.md", "seal")
     for top in ("bench", "crates", "docs", "include", "man", "rust", "tests"):
         for folder, folders, names in os.walk(os.path.join(ROOT, top)):
-            folders[:] = [name for name in folders if name not in ("target", "__pycache__")]
+            folders[:] = [name for name in folders if name not in ("target", "out", "__pycache__")]
             paths = (os.path.join(folder, name) for name in names)
             yield from (os.path.relpath(path, ROOT) for path in paths if os.path.isfile(path))
 
