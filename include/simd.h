@@ -414,27 +414,27 @@ extern "C" {
    what the machine code can need at all; the library's tests do both again
    (tests/c/stack.c, tests/c/frames.py).  Where memcpy and memset are bound only
    when they are first called, the loader's stack for that comes on top. */
-#define SIMD_STACK_OPEN 768
-#define SIMD_STACK_FEED 9216
-#define SIMD_STACK_TAKE 8192
-#define SIMD_STACK_RESTORE 832
+#define SIMD_STACK_OPEN 512
+#define SIMD_STACK_FEED 8192
+#define SIMD_STACK_TAKE 6912
+#define SIMD_STACK_RESTORE 1216
 #define SIMD_STACK_HASH 6912
-#define SIMD_STACK_HMAC_OPEN 11520
-#define SIMD_STACK_HMAC_FEED 9728
-#define SIMD_STACK_HMAC_TAKE 11776
-#define SIMD_STACK_HMAC_CHECK 10240
-#define SIMD_STACK_HMAC 12288
+#define SIMD_STACK_HMAC_OPEN 10240
+#define SIMD_STACK_HMAC_FEED 8704
+#define SIMD_STACK_HMAC_TAKE 9216
+#define SIMD_STACK_HMAC_CHECK 9216
+#define SIMD_STACK_HMAC 10752
 #define SIMD_STACK_EXPAND 3840
-#define SIMD_STACK_STEPS 5120
-#define SIMD_STACK_UNSTEPS 5120
+#define SIMD_STACK_STEPS 6400
+#define SIMD_STACK_UNSTEPS 6400
 #define SIMD_STACK_COMPARE 7680
-#define SIMD_STACK_TAPE 9472
+#define SIMD_STACK_TAPE 8192
 #define SIMD_STACK_PAGE_ENTRY 320
 #define SIMD_STACK_QUOTE 128
 #define SIMD_STACK_QUOTE_CHECK 128
 #define SIMD_STACK_INDEX 7168
 #define SIMD_STACK_REINDEX 7168
-#define SIMD_STACK_MAX 12288    /* of all calls */
+#define SIMD_STACK_MAX 10752    /* of all calls */
 
 /* REFUSALS */
 

@@ -12,11 +12,7 @@ fn bytes_of_blocks(width: u16, blocks: usize) -> usize
     requires { blocks < 2 ^ 56 }
     ensures { result ≡ block_bytes (family_of width) * blocks }
 {
-    if width <= 256 {
-        64 * blocks
-    } else {
-        128 * blocks
-    }
+    tail::block_bytes(width) * blocks
 }
 
 // Puts all bits of a source behind those of the tail, and compresses each block that the first `count` of them make full. Gives their number.

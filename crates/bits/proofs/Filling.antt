@@ -33,6 +33,10 @@ filled_more n i g xs x f below here =
 pub filled_all : (n i : ℕ) (g : ℕ → ℕ) (xs : List ℕ) → Filled n i g xs → n ≤ i → xs ≡ table n g
 filled_all n i g xs f end = table_of 0 n g xs f.size (λ k below. f.front k (omega arith))
 
+-- A list of zeros.
+pub zeros : (n : ℕ) → replicate {A = ℕ} n 0 ≡ table n (λ _. 0)
+zeros n = table_of 0 n (λ _. 0) (replicate {A = ℕ} n 0) (length-replicate {A = ℕ} n 0) (λ k below. get_or-replicate n k 0 0 below)
+
 -- The first n elements of a list.
 pub take_table : (n : ℕ) (xs : List ℕ) → n ≤ length xs → take n xs ≡ table n (λ k. get_or xs k 0)
 take_table n xs within =

@@ -3,3 +3,4 @@ pub mod Filling
 pub mod Parts
 pub mod Stream
 pub mod Front
+pub mod Bytes

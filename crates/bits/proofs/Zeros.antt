@@ -1,12 +1,13 @@
 -- Laws of `all_zero`, `clear` and `padded`.
 use mathlib.Core.Bool.{Bool, true, false, ◌&&◌}
 use mathlib.Core.List.{List, [], ◌∷◌}
-use mathlib.Core.Path.{◌≡◌, refl, sym, ◌∙◌}
+use mathlib.Core.Path.{◌≡◌, refl, sym, ap, ◌∙◌}
 use Prim.Native.Nat.{ℕ, zero, suc, ◌+◌, ◌-◌, ◌<◌, ◌≤◌, ◌*◌}
 use native.Mathlib.Omega.{arith}
 use native.Mathlib.Decide.{dec_lt}
 use borrow.Author.Tests.{eqb-true, eq-eqb}
-use lib.Bits.{bit_or, or_add_and, and_le_l, and_le_r, or_zero_l}
+use lib.Bits.{bit_or, or_add_and, and_le_r, or_zero_l}
+use Rattle.std.specs.List.{fold}
 use lib.Dec.{eqb, eqb-suc-zero}
 use lib.ListN.{length, get_or, take, drop, length-take, length-drop, get_or-eq_default}
 use lib.Seq.{get_or-drop, get_or-take, ext_get_or}
@@ -22,6 +23,14 @@ and_left false b e = e
 pub and_right : (a b : Bool) → (a && b) ≡ true → b ≡ true
 and_right true b e = e
 and_right false b e = cc
+
+and_true : (a : Bool) → (a && true) ≡ a
+and_true true = refl
+and_true false = refl
+
+and_assoc : (a b c : Bool) → ((a && b) && c) ≡ (a && (b && c))
+and_assoc true b c = refl
+and_assoc false b c = refl
 
 pub zero_at : (xs : List ℕ) → all_zero xs ≡ true → (i : ℕ) → get_or xs i 0 ≡ 0
 unfolding all_zero
@@ -50,60 +59,22 @@ past_zero n xs zeros i past =
     let place : n + (i - n) ≡ i = omega arith in
     rw place at (sym (get_or-drop n xs (i - n) 0) ∙ zero_at (drop n xs) zeros (i - n))
 
--- A search from place n on: none but zeros before place i.
-pub Passed : ℕ → ℕ → List ℕ → Type 0
-Passed n i xs = (k : ℕ) → n ≤ k → k < i → get_or xs k 0 ≡ 0
+-- The or of all numbers of a list and one before them is 0 exactly where all of these are.
+either_zero : (s x : ℕ) → eqb (bit_or s x) 0 ≡ (eqb s 0 && eqb x 0)
+either_zero zero x = rw (or_zero_l x)
+either_zero (suc s) x =
+    let both = or_add_and (suc s) x in
+    let right = and_le_r (suc s) x in
+    false_of (eqb (bit_or (suc s) x) 0) (λ none. absurd (omega (arith, eqb-true (bit_or (suc s) x) 0 none, both, right)))
+    ∙ ap (λ b. b && eqb x 0) (sym (eqb-suc-zero s))
 
-pub passed_none : (n : ℕ) (xs : List ℕ) → Passed n n xs
-unfolding Passed
-passed_none n xs k from below = absurd (omega arith)
+or_from : (s : ℕ) (xs : List ℕ) → eqb (fold bit_or s xs) 0 ≡ (eqb s 0 && all_zero xs)
+unfolding all_zero
+or_from s [] = sym (and_true (eqb s 0))
+or_from s (x ∷ xs) = or_from (bit_or s x) xs ∙ ap (λ b. b && all_zero xs) (either_zero s x) ∙ and_assoc (eqb s 0) (eqb x 0) (all_zero xs)
 
-pub passed_more : (n i : ℕ) (xs : List ℕ) → Passed n i xs → get_or xs i 0 ≡ 0 → Passed n (i + 1) xs
-unfolding Passed
-passed_more n i xs before here k from below = elim (dec_lt k i) [
-  | yes less ↦ before k from less
-  | no other ↦
-      let same : i ≡ k = omega arith in
-      rw same at here
-]
-
-pub passed_all : (n i : ℕ) (xs : List ℕ) → Passed n i xs → length xs ≤ i → all_zero (drop n xs) ≡ true
-unfolding Passed
-passed_all n i xs before end =
-    all_zero_lem (drop n xs)
-    (λ k below. get_or-drop n xs k 0 ∙ before (n + k) (omega arith) (omega (arith, length-drop n xs)))
-
--- What the or of all that such a search read says: it is 0 exactly where all of it is.
-pub record Seen (n i : ℕ) (xs : List ℕ) (seen : ℕ) : Type 0 where
-  pub only : seen ≡ 0 → Passed n i xs
-  pub all : Passed n i xs → seen ≡ 0
-
-pub seen_none : (n : ℕ) (xs : List ℕ) → Seen n n xs 0
-seen_none n xs = record { only = λ _. passed_none n xs; all = λ _. refl }
-
-pub seen_more : (n i : ℕ) (xs : List ℕ) (seen : ℕ) → n ≤ i → Seen n i xs seen → Seen n (i + 1) xs (bit_or seen (get_or xs i 0))
-unfolding Passed
-seen_more n i xs seen from before =
-    let x = get_or xs i 0 in
-    record {
-      only =
-          λ none.
-          let both = or_add_and seen x in
-          let left = and_le_l seen x in
-          let right = and_le_r seen x in
-          passed_more n i xs (before.only (omega (arith, none, both, left, right))) (omega (arith, none, both, left, right));
-      all =
-          λ passed.
-          let left = before.all (λ k first below. passed k first (omega arith)) in
-          let right = passed i from (omega arith) in
-          rw (left, right) (or_zero_l 0);
-    }
-
-pub seen_all : (n i : ℕ) (xs : List ℕ) (seen : ℕ) → Seen n i xs seen → length xs ≤ i → eqb seen 0 ≡ all_zero (drop n xs)
-unfolding Passed
-seen_all n i xs zero s end = sym (passed_all n i xs (s.only refl) end)
-seen_all n i xs (suc seen) s end =
-    eqb-suc-zero seen ∙ sym (false_of (all_zero (drop n xs)) (λ all. absurd (omega (arith, s.all (λ k first _. past_zero n xs all k first)))))
+pub or_zero : (xs : List ℕ) (seen : ℕ) → seen ≡ fold bit_or 0 xs → eqb seen 0 ≡ all_zero xs
+or_zero xs seen all = ap (λ n. eqb n 0) all ∙ or_from 0 xs
 
 -- Past place n.
 pub clear_at : (n : ℕ) (bytes : List ℕ) → clear n bytes ≡ true → (i : ℕ) → n ≤ i → get_or (bits_of bytes) i 0 ≡ 0

@@ -8,43 +8,26 @@ ghost use Rattle.simd.specs.Message.{byte_of, message};
 ghost use Rattle.bits.specs.Zero.{all_zero, clear};
 ghost use Rattle.bits.specs.Shift.{carry_at, shifted, with_shifted};
 
-pub fn wide(x: u8) -> u16
-    ensures { (result ≡ x) × (result < 256) }
-{
-    x as u16
-}
-
 // The bytes that hold so many bits.
 pub fn bytes_of_bits(count: usize) -> usize
     ensures { result ≡ (count + 7) / 8 }
 {
-    count / 8 + (count % 8 + 7) / 8
+    count.div_ceil(8)
 }
 
 // Whether all words from a place on are 0. All are read, with no early end, so that the loop becomes vector code.
 pub fn words_zero(words: &[u32], from: usize) -> bool
     ensures { result ≡ all_zero (drop from words.now) }
 {
-    let mut seen = 0u32;
-    let mut i = from;
-    while i < words.len() {
-        seen = seen | words[i];
-        i += 1;
-    }
-    seen == 0
+    let rest = &words[from.min(words.len())..];
+    rest.iter().fold(0, |seen, word| seen | *word) == 0
 }
 
-// Whether all bytes from a place on are 0.
-fn bytes_zero(bytes: &[u8], from: usize) -> bool
-    ensures { result ≡ all_zero (drop from bytes.now) }
+// The same of all bytes.
+fn bytes_zero(bytes: &[u8]) -> bool
+    ensures { result ≡ all_zero bytes.now }
 {
-    let mut seen = 0u8;
-    let mut i = from;
-    while i < bytes.len() {
-        seen = seen | bytes[i];
-        i += 1;
-    }
-    seen == 0
+    bytes.iter().fold(0, |seen, byte| seen | *byte) == 0
 }
 
 // 2 to the number of bits that are free in a byte that holds `held`.
@@ -63,10 +46,10 @@ pub fn bits_zero(bytes: &[u8], from: usize) -> bool
     if bytes.len() <= at {
         return true;
     }
-    if wide(bytes[at]) % scale_of(from % 8) != 0 {
+    if u16::from(bytes[at]) % scale_of(from % 8) != 0 {
         return false;
     }
-    bytes_zero(bytes, at + 1)
+    bytes_zero(&bytes[at + 1..])
 }
 
 // Writes the shifted source, as much as the buffer takes, and gives the carry after it.
@@ -75,15 +58,13 @@ pub fn shift(scale: u16, carry: u8, src: &[u8], dst: &mut [u8]) -> u8
     ensures { (dst.new ≡ table (length dst.old) (shifted scale carry src.now))
         × (result ≡ carry_at scale carry src.now (length dst.old)) }
 {
-    let mut held = wide(carry);
-    let mut i = 0;
-    while i < dst.len() {
-        let scaled = wide(src[i]) * scale;
+    let mut held = u16::from(carry);
+    for i in 0..dst.len() {
+        let scaled = u16::from(src[i]) * scale;
         dst[i] = ((held + scaled / 256) % 256) as u8;
         held = scaled % 256;
-        i += 1;
     }
-    (held % 256) as u8
+    held as u8
 }
 
 // Writes the shifted source into a buffer from place `at` on, and the carry behind it where the buffer goes on.
@@ -100,24 +81,13 @@ pub fn write_shifted(buffer: &mut [u8], at: usize, scale: u16, carry: u8, src: &
     }
 }
 
-// Makes all bytes 0.
-pub fn blank(bytes: &mut [u8])
-    ensures { bytes.new ≡ table (length bytes.old) (λ _. 0) }
-{
-    let mut i = 0;
-    while i < bytes.len() {
-        bytes[i] = 0;
-        i += 1;
-    }
-}
-
 // Makes all bits from a place on 0, where none is set behind the byte that follows it.
 pub fn cut(bytes: &mut [u8], from: usize)
     requires { (from / 8 < length bytes.old) × (all_zero (drop (from / 8 + 2) bytes.old) ≡ true) }
     ensures { bytes.new ≡ table (length bytes.old) (byte_of (message bytes.old from)) }
 {
     let at = from / 8;
-    let kept = wide(bytes[at]) >> (8 - from % 8);
+    let kept = u16::from(bytes[at]) >> (8 - from % 8);
     bytes[at] = (kept * scale_of(from % 8)) as u8;
     if at + 1 < bytes.len() {
         bytes[at + 1] = 0;

@@ -9,7 +9,7 @@ ghost use Rattle.bits.specs.Zero.{all_zero};
 pub fn smaller(x: usize, y: usize) -> usize
     ensures { result ≡ min x y }
 {
-    if x < y { x } else { y }
+    x.min(y)
 }
 
 // So many bytes from a place on.
@@ -17,8 +17,7 @@ pub fn part(bytes: &[u8], at: usize, size: usize) -> &[u8]
     requires { at + size ≤ length bytes.now }
     ensures { (result.now ≡ take size (drop at bytes.now)) × (length result.now ≡ size) }
 {
-    let end = at + size;
-    &bytes[at..end]
+    &bytes[at..at + size]
 }
 
 // The bytes from a place on, put over zeros, so that zeros stand past their end.
@@ -26,12 +25,8 @@ pub fn fill(bytes: &[u8], at: usize, block: &mut [u8])
     requires { (at ≤ length bytes.now) × (all_zero block.old ≡ true) }
     ensures { block.new ≡ table (length block.old) (λ j. get_or bytes.now (at + j) 0) }
 {
-    let count = smaller(bytes.len() - at, block.len());
-    let mut j = 0;
-    while j < count {
-        block[j] = bytes[at + j];
-        j += 1;
-    }
+    let count = (bytes.len() - at).min(block.len());
+    block[..count].copy_from_slice(&bytes[at..at + count]);
 }
 
 // The first `count` bits from a place on, put over zeros: whatever stands behind the last one, zeros do here.
@@ -50,16 +45,5 @@ pub fn fill_bits(bytes: &[u8], at: usize, count: usize, block: &mut [u8])
 pub fn length_block(bits: u64, block: &mut [u8])
     ensures { block.new ≡ table (length block.old) (λ j. bits / 256 ^ j % 256) }
 {
-    let count = smaller(8, block.len());
-    let mut rest = bits;
-    let mut j = 0;
-    while j < count {
-        block[j] = (rest % 256) as u8;
-        rest = rest / 256;
-        j += 1;
-    }
-    while j < block.len() {
-        block[j] = 0;
-        j += 1;
-    }
+    little_endian::write_number(block, bits);
 }

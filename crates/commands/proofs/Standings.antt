@@ -11,10 +11,8 @@ use lib.ListN.{length, length-append}
 use Rattle.simd.specs.Basic.{is_width}
 use Rattle.simd.specs.Message.{message}
 use Rattle.laws.proofs.Bits.{bits_append}
-use Rattle.hash.specs.Open.{limit, legal, advanced, open_answer, open_refusal, opened, piece_refusal, feed_refusal, fed, feed_answer}
+use Rattle.hash.specs.Open.{Opened, Fed, limit, legal, advanced, open_answer, open_refusal, opened, piece_refusal, feed_refusal, fed, feed_answer}
 use Rattle.hash.specs.declared.Hash.{Hash}
-use Rattle.hash.specs.declared.Opened.{Opened}
-use Rattle.hash.specs.declared.Fed.{Fed}
 use Rattle.hash.proofs.Feeding.{Whole, fed_whole, length_message, bits_message, at_widths}
 use Rattle.hash_theorems.proofs.Held.{long}
 use Rattle.hash_theorems.proofs.Advanced.{advanced_append, advanced_none}

@@ -3,6 +3,7 @@ use mathlib.Core.Bool.{Bool, true, false}
 use mathlib.Core.List.{List}
 use mathlib.Core.Path.{◌≡◌, refl}
 use Prim.Native.Nat.{ℕ, ◌+◌, ◌≤◌, ◌<◌}
+use Rattle.std.specs.Prelude.{Result, Ok, Err}
 use native.Mathlib.Omega.{arith}
 use lib.Dec.{lit<}
 use lib.ListN.{length, drop, length-take, length-drop}
@@ -10,14 +11,15 @@ use lib.Seq.{take_all}
 use Rattle.simd.specs.Basic.{is_width}
 use Rattle.simd.specs.Message.{bits_of, message}
 use Rattle.laws.proofs.Bits.{length_bits_of}
-use Rattle.hash.specs.Open.{open_answer, feed_answer}
+use Rattle.hash.specs.Open.{Opened, Fed, open_answer, feed_answer, fed_by}
 use Rattle.hash.specs.declared.Hash.{Hash}
-use Rattle.hash.specs.declared.Opened.{Opened}
-use Rattle.hash.specs.declared.Fed.{Fed}
 use Rattle.reader.specs.declared.Command.{Command}
 use Rattle.reader.specs.declared.Command.TheVariants.{Open, Full, Part, Stop}
 use Rattle.commands.specs.Effect.{closed, opened, refuses, effect, piece}
 use Rattle.commands.specs.Standing.{Steps, Obeys, Opens, Takes}
+use Rattle.refusals.specs.declared.Refusal.{Refusal}
+use Rattle.refusals.specs.Numbers.{number_of}
+use Rattle.commands.specs.declared.Step.{Step}
 use Rattle.commands.proofs.Standings.{step_of, stands_fresh, open_accepted, open_refused, stands_open, feed_steps}
 
 -- 12: a command that needs an open hash, where none is.
@@ -49,6 +51,11 @@ open_new width hash a none e tape (opened w m) st = absurd (stands_open st none)
 message_full : (piece : List ℕ) → length piece ≡ 32 → message piece 256 ≡ bits_of piece
 unfolding message
 message_full piece size = take_all 256 (bits_of piece) (omega (arith, length_bits_of piece))
+
+-- The step that a feed makes.
+pub fed_step : (hash : Hash) (answer : Result ℕ Refusal) → ◌≡◌ {A = Step} (step_of (fed_by hash answer)) (record { hash = hash; refusal = number_of answer })
+fed_step hash (Ok n) = refl
+fed_step hash (Err r) = refl
 
 -- FULL and PART of an open hash.
 module _ (tape : List ℕ) (p : ℕ) (hash : Hash) (some : hash.width ≡ 0 → ⊥) where

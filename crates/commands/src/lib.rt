@@ -7,8 +7,9 @@ ghost use Rattle.commands.specs.Standing.{Obeys, Opens, Takes};
 
 use hash::Hash;
 use reader::Command;
+use refusals::number_of;
 
-// The hash after a command, and its refusal or 0.
+// The hash after a command, and the number of its refusal or 0, with which the run is closed (docs/DECISIONS.md, "The nine named forms").
 #[derive(Clone, Copy)]
 pub struct Step {
     pub hash: Hash,
@@ -29,7 +30,7 @@ fn opening(hash: Hash, width: u16) -> Step
     let fresh = opened.hash;
     Step {
         hash: fresh,
-        refusal: opened.refusal,
+        refusal: number_of(opened.result),
     }
 }
 
@@ -48,7 +49,7 @@ fn full(hash: Hash, tape: &[u8], place: usize) -> Step
     let fresh = fed.hash;
     Step {
         hash: fresh,
-        refusal: fed.refusal,
+        refusal: number_of(fed.result),
     }
 }
 
@@ -67,7 +68,7 @@ fn part(hash: Hash, tape: &[u8], count: u8, place: usize) -> Step
     let fresh = fed.hash;
     Step {
         hash: fresh,
-        refusal: fed.refusal,
+        refusal: number_of(fed.result),
     }
 }
 

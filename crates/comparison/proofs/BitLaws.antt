@@ -1,5 +1,5 @@
 -- Two messages of n bits are equal exactly where their whole bytes are and, of the byte in which n ends, the first bits.
-use mathlib.Core.Bool.{Bool, true, false}
+use mathlib.Core.Bool.{true, false}
 use mathlib.Core.List.{List}
 use mathlib.Core.Path.{◌≡◌, sym, ap, ◌∙◌}
 use Prim.Native.Nat.{ℕ, ◌*◌, ◌-◌, ◌/◌, ◌%◌, ◌^◌, ◌<◌, ◌≤◌}
@@ -56,22 +56,20 @@ module _ (x y : List ℕ) (n : ℕ) (fits_x : (j : ℕ) → get_or x j 0 < 256) 
           let here : q ≡ j = omega arith in
           rw (← here) (last_byte x fits_x ∙ ap (λ (v : ℕ). v * 2 ^ e) (last (omega arith)) ∙ sym (last_byte y fits_y))
 
-  module _ {u v : List ℕ} {r : Bool} (first : u ≡ take q x) (second : v ≡ take q y) (test : r ≡ equal u v) where
-    pub bytes_other : r ≡ false → false ≡ equal (message x n) (message y n)
-    bytes_other other =
-        sym (not_equal (message x n) (message y n) (λ same. equal_false u v (sym test ∙ other) (first ∙ whole_same same ∙ sym second)))
+  pub bytes_other : equal (take q x) (take q y) ≡ false → false ≡ equal (message x n) (message y n)
+  bytes_other other = sym (not_equal (message x n) (message y n) (λ same. equal_false (take q x) (take q y) other (whole_same same)))
 
-    module _ (equal_bytes : r ≡ true) where
-      whole : take q x ≡ take q y
-      whole = sym first ∙ equal_true u v (sym test ∙ equal_bytes) ∙ second
+  module _ (equal_bytes : equal (take q x) (take q y) ≡ true) where
+    whole : take q x ≡ take q y
+    whole = equal_true (take q x) (take q y) equal_bytes
 
-      pub bytes_all : n % 8 ≡ 0 → true ≡ equal (message x n) (message y n)
-      bytes_all none = sym (same_equal (message x n) (message y n) (both_same whole (λ more. absurd (omega arith))))
+    pub bytes_all : n % 8 ≡ 0 → true ≡ equal (message x n) (message y n)
+    bytes_all none = sym (same_equal (message x n) (message y n) (both_same whole (λ more. absurd (omega arith))))
 
-      pub last_decides : eqb (get_or x q 0 / 2 ^ e) (get_or y q 0 / 2 ^ e) ≡ equal (message x n) (message y n)
-      last_decides = by (ℕ_discrete (get_or x q 0 / 2 ^ e) (get_or y q 0 / 2 ^ e))
-        where
-          by : Dec (get_or x q 0 / 2 ^ e ≡ get_or y q 0 / 2 ^ e)
-              → eqb (get_or x q 0 / 2 ^ e) (get_or y q 0 / 2 ^ e) ≡ equal (message x n) (message y n)
-          by (yes same) = eq-eqb _ _ same ∙ sym (same_equal (message x n) (message y n) (both_same whole (λ _. same)))
-          by (no other) = ne_eqb _ _ other ∙ sym (not_equal (message x n) (message y n) (λ same. other (last_same same)))
+    pub last_decides : eqb (get_or x q 0 / 2 ^ e) (get_or y q 0 / 2 ^ e) ≡ equal (message x n) (message y n)
+    last_decides = by (ℕ_discrete (get_or x q 0 / 2 ^ e) (get_or y q 0 / 2 ^ e))
+      where
+        by : Dec (get_or x q 0 / 2 ^ e ≡ get_or y q 0 / 2 ^ e)
+            → eqb (get_or x q 0 / 2 ^ e) (get_or y q 0 / 2 ^ e) ≡ equal (message x n) (message y n)
+        by (yes same) = eq-eqb _ _ same ∙ sym (same_equal (message x n) (message y n) (both_same whole (λ _. same)))
+        by (no other) = ne_eqb _ _ other ∙ sym (not_equal (message x n) (message y n) (λ same. other (last_same same)))

@@ -1,8 +1,8 @@
 -- The compression from its parts: columns of a state, its words, and 36 steps as 32 and 4.
 use mathlib.Core.Bool.{Bool}
-use mathlib.Core.List.{List, [], ◌∷◌, ◌++◌}
+use mathlib.Core.List.{List, [], ◌++◌}
 use mathlib.Core.Path.{◌≡◌, refl, sym, ap, ◌∙◌, subst}
-use Prim.Native.Nat.{ℕ, zero, suc, ◌+◌, ◌*◌, ◌≤◌}
+use Prim.Native.Nat.{ℕ, zero, suc, ◌+◌, ◌≤◌}
 use native.Mathlib.Omega.{arith}
 use lib.Bits.{bit_xor}
 use lib.ListN.{length, get_or, take, drop, length-take, length-drop, get_or-append}
@@ -20,15 +20,6 @@ pub part : (n k : ℕ) (l : List ℕ) → k + n ≤ length l → take n (drop k 
 part n k l fits =
     table_of 0 n (λ j. get_or l (k + j) 0) (take n (drop k l)) (simp (length-take, length-drop) (omega arith))
     (λ j below. get_or-take n (drop k l) j 0 below ∙ get_or-drop k l j 0)
-
--- The columns of a state by its words.
-pub split_columns : (f : Family) (l : List ℕ) → length l ≡ state_words f
-    → table 4 (λ c. table (rows f) (λ j. get_or l (rows f * c + j) 0)) ≡ columns (state f l)
-unfolding state table
-split_columns small l size =
-    sym (λ t. part 4 0 l (omega arith) t ∷ part 4 4 l (omega arith) t ∷ part 4 8 l (omega arith) t ∷ part 4 12 l (omega arith) t ∷ [])
-split_columns large l size =
-    sym (λ t. part 8 0 l (omega arith) t ∷ part 8 8 l (omega arith) t ∷ part 8 16 l (omega arith) t ∷ part 8 24 l (omega arith) t ∷ [])
 
 -- The words of a state by its columns.
 own : (n : ℕ) (l : List ℕ) → length l ≡ n → l ≡ table n (λ j. get_or l j 0)

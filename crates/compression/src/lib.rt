@@ -1,24 +1,112 @@
 // The compression of both families and the starting states. A state is its words in the published order.
 #![tactic(auto)]
 
-ghost use Rattle.std.specs.Prelude.{◌≡◌, ◌+◌, ◌≤◌, length, get_or};
-ghost use Rattle.simd.specs.Basic.{table};
+ghost use Rattle.std.specs.Prelude.{◌≡◌, ◌+◌, ◌≤◌, length, take, drop, refl};
+ghost use Rattle.simd.specs.Basic.{state_words, block_bytes};
 ghost use Rattle.simd.specs.Constants.{start224, start256, start384, start512};
+ghost use Rattle.simd.specs.Expansion.{expanded};
+ghost use Rattle.simd.specs.Steps.{state as state_of, mixed as mixed_of, compression};
+ghost use Rattle.transform_tables.specs.Roots.{Roots};
+ghost use Rattle.words.specs.Columns.{columns};
+ghost use Rattle.compression.specs.Flat.{flat as flat_of};
+
+use crate::bytes::word;
+use step_numbers::Rows;
+pub use step_numbers::{Large, Small};
 
 pub mod bytes;
-pub mod large;
-pub mod small;
 
-// Words from a place on, as many as `part` has.
-fn column(words: &[u32], at: usize, part: &mut [u32])
-    requires { at + length part.old ≤ length words.now }
-    ensures { part.new ≡ table (length part.old) (λ j. get_or words.now (at + j) 0) }
-{
-    let mut j = 0;
-    while j < part.len() {
-        part[j] = words[at + j];
-        j += 1;
+// A family by the R rows and the W words of a state, with its expansion.
+pub trait Family<const R: usize, const W: usize>: Rows<R> {
+    // The expanded block. The table is that of `transform_tables::roots`.
+    fn expand(block: &[u8], roots: &[u16; 512], last: bool) -> [[u32; R]; 32]
+        requires { (length block.now ≡ block_bytes Self.family) × Roots roots.now }
+        ensures { result ≡ expanded Self.family last block.now };
+
+    ghost has_words: { state_words Self.family ≡ W };
+}
+
+impl Family<4, 16> for Small {
+    fn expand(block: &[u8], roots: &[u16; 512], last: bool) -> [[u32; 4]; 32] {
+        expansion::expand_small(block, roots, last)
     }
+
+    ghost has_words = { refl };
+}
+
+impl Family<8, 32> for Large {
+    fn expand(block: &[u8], roots: &[u16; 512], last: bool) -> [[u32; 8]; 32] {
+        expansion::expand_large(block, roots, last)
+    }
+
+    ghost has_words = { refl };
+}
+
+// R words from a place on.
+fn column<const R: usize>(words: &[u32], at: usize) -> [u32; R]
+    requires { at + R ≤ length words.now }
+    ensures { result ≡ take R (drop at words.now) }
+{
+    let mut part = [0u32; R];
+    part.copy_from_slice(&words[at..at + R]);
+    part
+}
+
+// The columns of a state, and its words in the published order.
+pub fn split<F: Family<R, W>, const R: usize, const W: usize>(words: [u32; W]) -> [[u32; R]; 4]
+    ensures { result ≡ columns (state_of F.family words.entry) }
+{
+    [
+        column(&words, 0),
+        column(&words, R),
+        column(&words, 2 * R),
+        column(&words, 3 * R),
+    ]
+}
+
+pub fn flat<F: Family<R, W>, const R: usize, const W: usize>(s: [[u32; R]; 4]) -> [u32; W]
+    ensures { result ≡ flat_of F.family s.entry }
+{
+    let mut words = [0u32; W];
+    for k in 0..W {
+        words[k] = s[k / R][k % R];
+    }
+    words
+}
+
+// Old state xor block.
+pub fn mixed<F: Family<R, W>, const R: usize, const W: usize>(
+    old: [u32; W],
+    block: &[u8],
+) -> [u32; W]
+    requires { length block.now ≡ block_bytes F.family }
+    ensures { result ≡ mixed_of F.family old.entry block.now }
+{
+    let mut words = old;
+    for i in 0..W {
+        words[i] = old[i] ^ word(block, i);
+    }
+    words
+}
+
+// The compression of one block. The table is that of `transform_tables::roots`. What the steps leave in `unread` is of no use: it is lent from
+// above so that their stores are not dropped.
+pub fn compress<F: Family<R, W>, const R: usize, const W: usize>(
+    state: &mut [u32; W],
+    block: &[u8],
+    roots: &[u16; 512],
+    last: bool,
+    unread: &mut [[u32; R]; 36],
+)
+    requires { (length block.now ≡ block_bytes F.family) × Roots roots.now }
+    ensures { state.new ≡ compression F.family last state.old block.now }
+{
+    let old = *state;
+    let w = F::expand(block, roots, last);
+    let h = split::<F, R, W>(old);
+    let start = split::<F, R, W>(mixed::<F, R, W>(old, block));
+    let new = flat::<F, R, W>(steps::all_steps::<F, R>(start, &w, &h, unread));
+    *state = new;
 }
 
 const START_224: [u32; 16] = [
@@ -26,6 +114,7 @@ const START_224: [u32; 16] = [
     0x22e7b0af, 0xc862b3a8, 0x33e00cdc, 0x236b86a6, 0xf64ae77c, 0xfa373b76, 0x7dc1ee5b, 0x7fb29ce8,
 ];
 
+#[tactic(auto, unfolding(simd::specs::Constants::start224))]
 pub fn start_224() -> [u32; 16]
     ensures { result ≡ start224 }
 {
@@ -37,6 +126,7 @@ const START_256: [u32; 16] = [
     0xc2c2ba14, 0x49b3bcb4, 0xf67caf46, 0x668626c9, 0xe2eaa8d2, 0x1ff47833, 0xd0c661a5, 0x55693de1,
 ];
 
+#[tactic(auto, unfolding(simd::specs::Constants::start256))]
 pub fn start_256() -> [u32; 16]
     ensures { result ≡ start256 }
 {
@@ -50,6 +140,7 @@ const START_384: [u32; 32] = [
     0xe64071ec, 0x1deb91a8, 0x8ac8db23, 0x3f782ab5, 0x039b5cb8, 0x71ddd962, 0xfade2cea, 0x1416df71,
 ];
 
+#[tactic(auto, unfolding(simd::specs::Constants::start384))]
 pub fn start_384() -> [u32; 32]
     ensures { result ≡ start384 }
 {
@@ -63,6 +154,7 @@ const START_512: [u32; 32] = [
     0x09254899, 0xd699c7bc, 0x9019b6dc, 0x2b9022e4, 0x8fa14956, 0x21bf9bd3, 0xb94d0943, 0x6ffddc22,
 ];
 
+#[tactic(auto, unfolding(simd::specs::Constants::start512))]
 pub fn start_512() -> [u32; 32]
     ensures { result ≡ start512 }
 {

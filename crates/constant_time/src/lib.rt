@@ -9,11 +9,9 @@ pub fn same_block(x: &[u8], y: &[u8]) -> bool
     requires { length x.now ≡ length y.now }
     ensures { result ≡ equal x.now y.now }
 {
-    let mut seen = 0u8;
-    let mut i = 0;
-    while i < x.len() {
-        seen = seen | (x[i] ^ y[i]);
-        i += 1;
+    let mut seen = 0;
+    for (a, b) in x.iter().zip(y) {
+        seen |= a ^ b;
     }
     seen == 0
 }
@@ -22,8 +20,5 @@ pub fn same_block(x: &[u8], y: &[u8]) -> bool
 pub fn same_bytes(x: &[u8], y: &[u8]) -> bool
     ensures { result ≡ equal x.now y.now }
 {
-    if x.len() != y.len() {
-        return false;
-    }
-    same_block(x, y)
+    x.len() == y.len() && same_block(x, y)
 }

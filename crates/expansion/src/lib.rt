@@ -6,7 +6,10 @@ ghost use Rattle.std.specs.Prelude.{◌≡◌, ◌≤◌, length, drop};
 ghost use Rattle.simd.specs.Basic.{small, large, is_width};
 ghost use Rattle.simd.specs.Expansion.{expanded};
 ghost use Rattle.transform_tables.specs.Roots.{Roots};
+ghost use Rattle.refusals.specs.Numbers.{number_of};
 ghost use Rattle.expansion.specs.Call.{size_refusal, expand_refusal, expand_output};
+
+use refusals::Refusal;
 
 pub mod output;
 
@@ -14,25 +17,15 @@ pub mod output;
 pub fn is_width(width: u16) -> bool
     ensures { result ≡ is_width width }
 {
-    if width == 224 {
-        return true;
-    }
-    if width == 256 {
-        return true;
-    }
-    if width == 384 {
-        return true;
-    }
-    width == 512
+    matches!(width, 224 | 256 | 384 | 512)
 }
 
-// Why a block of so many bytes is not expanded into so many words, or 0.
-pub fn refusal(width: u16, bytes: usize, room: usize) -> u8
-    ensures { result ≡ expand_refusal width bytes room }
+// Whether a block of so many bytes is expanded into so many words. Refusals 1, 7, 6.
+pub fn refusal(width: u16, bytes: usize, room: usize) -> Result<(), Refusal>
+    ensures { number_of result ≡ expand_refusal width bytes room }
 {
-    let known = is_width(width);
-    if !known {
-        return 1;
+    if !is_width(width) {
+        return Err(Refusal::Width);
     }
     if width <= 256 {
         return size_refusal(64, 128, bytes, room);
@@ -41,16 +34,16 @@ pub fn refusal(width: u16, bytes: usize, room: usize) -> u8
 }
 
 // The part of a refusal that goes by sizes.
-fn size_refusal(block: usize, words: usize, bytes: usize, room: usize) -> u8
-    ensures { result ≡ size_refusal block words bytes room }
+fn size_refusal(block: usize, words: usize, bytes: usize, room: usize) -> Result<(), Refusal>
+    ensures { number_of result ≡ size_refusal block words bytes room }
 {
     if bytes != block {
-        return 7;
+        return Err(Refusal::Block);
     }
     if room < words {
-        return 6;
+        return Err(Refusal::Output);
     }
-    0
+    Ok(())
 }
 
 // The expanded block. The table is that of `transform_tables::roots`.
@@ -60,7 +53,7 @@ pub fn expand_small(block: &[u8], roots: &[u16; 512], last: bool) -> [[u32; 4]; 
 {
     let mut y = [0u16; 128];
     transform::small(block, roots, &mut y, last);
-    matrix::permuted_small(matrix::matrix_small(&y))
+    matrix::permuted(matrix::matrix_small(&y))
 }
 
 // The expanded block, row by row into lent words.
@@ -70,7 +63,7 @@ fn write_small(last: bool, block: &[u8], out: &mut [u32])
 {
     let roots = transform_tables::roots();
     let rows = expand_small(block, &roots, last);
-    output::put_small(rows, out);
+    output::put(&rows, out);
 }
 
 // The expanded block. The table is that of `transform_tables::roots`.
@@ -80,7 +73,7 @@ pub fn expand_large(block: &[u8], roots: &[u16; 512], last: bool) -> [[u32; 8]; 
 {
     let mut y = [0u16; 256];
     transform::large(block, roots, &mut y, last);
-    matrix::permuted_large(matrix::matrix_large(&y))
+    matrix::permuted(matrix::matrix_large(&y))
 }
 
 // The expanded block, row by row into lent words.
@@ -90,22 +83,19 @@ fn write_large(last: bool, block: &[u8], out: &mut [u32])
 {
     let roots = transform_tables::roots();
     let rows = expand_large(block, &roots, last);
-    output::put_large(rows, out);
+    output::put(&rows, out);
 }
 
-// Expands one block, as message or as length block, into the first words of out. Answers the refusal's number, or 0.
-pub fn expand(width: u16, last: bool, block: &[u8], out: &mut [u32]) -> u8
-    ensures value { result ≡ expand_refusal width (length block.now) (length out.old) }
+// Expands one block, as message or as length block, into the first words of out. Refusals 1, 7, 6.
+pub fn expand(width: u16, last: bool, block: &[u8], out: &mut [u32]) -> Result<(), Refusal>
+    ensures value { number_of result ≡ expand_refusal width (length block.now) (length out.old) }
     ensures out_after { out.new ≡ expand_output width last block.now out.old }
 {
-    let refused = refusal(width, block.len(), out.len());
-    if refused != 0 {
-        return refused;
-    }
+    refusal(width, block.len(), out.len())?;
     if width <= 256 {
         write_small(last, block, out);
-        return 0;
+        return Ok(());
     }
     write_large(last, block, out);
-    0
+    Ok(())
 }

@@ -127,9 +127,9 @@ module _ (width bits size : ℕ) (state tail out : List ℕ) (whole : length out
       sym (take_all (head_bytes + size + size) c (omega (arith, long))) ∙ f₃ ∙ λ i. w₁ i ++ middle i ++ last i
 
 -- Numbers read.
-pub read_two : (form : List ℕ) (a b : ℕ) → a ≡ get_or form 0 0 → b ≡ get_or form 1 0 → a + 256 * b ≡ form_width form
+pub read_two : (form : List ℕ) → get_or form 0 0 + get_or form 1 0 * 256 ≡ form_width form
 unfolding form_width number sum
-read_two form a b first second = omega arith
+read_two form = omega arith
 
 pub word_read : (bytes : List ℕ) (at n i : ℕ) → i < n → number 4 (drop (at + 4 * i) bytes) ≡ get_or (words_of n (drop at bytes)) i 0
 unfolding number word_at

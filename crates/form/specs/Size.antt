@@ -1,5 +1,5 @@
 -- The size of a stored form, and forms of the old size, whose bit length has 4 bytes.
-use Rattle.std.specs.Prelude.{cond, List, ◌++◌, ℕ, ◌+◌, ◌*◌, ◌-◌, eqb, length, take, drop}
+use Rattle.std.specs.Prelude.{◌≡◌, ◌≤◌, cond, List, ◌++◌, ℕ, ◌+◌, ◌*◌, ◌-◌, eqb, length, take, drop}
 use Rattle.simd.specs.Basic.{Family, family_of, block_bytes, table}
 use Rattle.little_endian.specs.Numbers.{little_endian}
 use Rattle.form.specs.Head.{head_bytes, form_width}
@@ -31,3 +31,8 @@ widened form = take old_head_bytes form ++ table (head_bytes - old_head_bytes) (
 -- The form of today that a form stands for. An old one is told by its size.
 unfoldable pub current : List ℕ → List ℕ
 current form = cond (eqb (length form) (old_form_bytes (form_family form))) (widened form) form
+
+-- A form, of today's size or the old one, whose blocks have `size` bytes.
+abbrev pub IsWhole : List ℕ → ℕ → Type 0
+IsWhole form size =
+    (size ≡ block_bytes (form_family form)) × (size ≤ 128) × (length (current form) ≡ form_bytes (form_family form))

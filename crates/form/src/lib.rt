@@ -5,7 +5,7 @@ ghost use Rattle.std.specs.Prelude.{◌≡◌, ◌++◌, ◌+◌, ◌*◌, ◌-�
 ghost use Rattle.simd.specs.Basic.{block_bytes, state_words, bytes_of, words_of};
 ghost use Rattle.bits.specs.Zero.{padded};
 ghost use Rattle.form.specs.Head.{head_bytes, head, form_width, form_bits};
-ghost use Rattle.form.specs.Size.{form_bytes, form_family, current};
+ghost use Rattle.form.specs.Size.{form_family, current, IsWhole};
 
 // The bytes of a bit length, and of a head: a width in 2 bytes and a bit length.
 const LENGTH_BYTES: usize = 8;
@@ -20,11 +20,7 @@ pub fn write_bytes(out: &mut [u8], src: &[u8])
     requires { length out.old ≤ length src.now }
     ensures { out.new ≡ take (length out.old) src.now }
 {
-    let mut i = 0;
-    while i < out.len() {
-        out[i] = src[i];
-        i += 1;
-    }
+    out.copy_from_slice(&src[..out.len()]);
 }
 
 // Writes a head.
@@ -32,7 +28,7 @@ pub fn write_head(width: u16, bits: u64, out: &mut [u8])
     requires { length out.old ≡ head_bytes }
     ensures { out.new ≡ head width bits }
 {
-    let number = width as u64;
+    let number = u64::from(width);
     little_endian::write_number(&mut out[0..2], number);
     little_endian::write_number(&mut out[2..HEAD_BYTES], bits);
 }
@@ -55,7 +51,7 @@ pub fn read_width(form: &[u8]) -> u16
     requires { 2 ≤ length form.now }
     ensures { result ≡ form_width form.now }
 {
-    bits::wide(form[0]) + 256 * bits::wide(form[1])
+    u16::from_le_bytes([form[0], form[1]])
 }
 
 pub fn read_bits(form: &[u8]) -> u64
@@ -71,25 +67,19 @@ pub fn read_words(bytes: &[u8], at: usize, words: usize) -> [u32; 32]
     ensures { result ≡ padded 32 (words_of words (drop at bytes.now)) }
 {
     let mut state = [0u32; 32];
-    let mut i = 0;
-    while i < words {
+    for i in 0..words {
         state[i] = little_endian::read_word(bytes, at + 4 * i);
-        i += 1;
     }
     state
 }
 
-// The bytes from a place to the end, so many and at most 128.
-fn read_bytes(bytes: &[u8], at: usize, count: usize) -> [u8; 128]
-    requires { (at + count ≡ length bytes.now) × (count ≤ 128) }
-    ensures { result ≡ padded 128 (drop at bytes.now) }
+// Bytes, of which there are at most 128, with zeros behind.
+fn read_bytes(bytes: &[u8]) -> [u8; 128]
+    requires { length bytes.now ≤ 128 }
+    ensures { result ≡ padded 128 bytes.now }
 {
     let mut tail = [0u8; 128];
-    let mut i = 0;
-    while i < count {
-        tail[i] = bytes[at + i];
-        i += 1;
-    }
+    tail[..bytes.len()].copy_from_slice(bytes);
     tail
 }
 
@@ -103,17 +93,17 @@ fn head_of(length: usize, size: usize) -> usize
 
 // The bit length, the state and the tail of a form, of today's size or the old one, whose blocks have `size` bytes.
 pub fn form_bits(form: &[u8], size: usize) -> u64
-    requires { (size ≡ block_bytes (form_family form.now)) × (size ≤ 128) × (length (current form.now) ≡ form_bytes (form_family form.now)) }
+    requires { IsWhole form.now size }
     ensures { result ≡ form_bits (current form.now) }
 {
     if form.len() < HEAD_BYTES + 2 * size {
-        return little_endian::read_word(form, 2) as u64;
+        return u64::from(little_endian::read_word(form, 2));
     }
     read_bits(form)
 }
 
 pub fn form_state(form: &[u8], size: usize) -> [u32; 32]
-    requires { (size ≡ block_bytes (form_family form.now)) × (size ≤ 128) × (length (current form.now) ≡ form_bytes (form_family form.now)) }
+    requires { IsWhole form.now size }
     ensures { result ≡ padded 32 (words_of (state_words (form_family form.now)) (drop head_bytes (current form.now))) }
 {
     let head = head_of(form.len(), size);
@@ -121,10 +111,10 @@ pub fn form_state(form: &[u8], size: usize) -> [u32; 32]
 }
 
 pub fn form_tail(form: &[u8], size: usize) -> [u8; 128]
-    requires { (size ≡ block_bytes (form_family form.now)) × (size ≤ 128) × (length (current form.now) ≡ form_bytes (form_family form.now)) }
+    requires { IsWhole form.now size }
     ensures { result
         ≡ padded 128 (drop (head_bytes + block_bytes (form_family form.now)) (current form.now)) }
 {
     let head = head_of(form.len(), size);
-    read_bytes(form, head + size, size)
+    read_bytes(&form[head + size..])
 }

@@ -1,14 +1,14 @@
 -- The stored form of a hash, elsewhere a serialized hashing context. When a byte string is one stands in the crate `hash_parts`, and what a form of
 -- the old size stands for, `current`, in the crate `form`.
-use Rattle.std.specs.Prelude.{cond, List, ◌++◌, ℕ, ◌+◌, leb, length, take, drop}
+use Rattle.std.specs.Prelude.{cond, Result, List, ◌++◌, ℕ, ◌+◌, leb, length, take, drop}
 use Rattle.simd.specs.Basic.{block_bytes, state_words, words_of, bytes_of}
 use Rattle.bits.specs.Zero.{padded}
 use Rattle.form.specs.Head.{head_bytes, head, form_width, form_bits}
 use Rattle.form.specs.Size.{old_head}
-use Rattle.hash.specs.Open.{family, legal, reached, opened}
+use Rattle.refusals.specs.declared.Refusal.{Refusal}
+use Rattle.refusals.specs.Numbers.{number_of}
+use Rattle.hash.specs.Open.{Opened, family, legal, reached, opened}
 use Rattle.hash.specs.declared.Hash.{Hash}
-use Rattle.hash.specs.declared.Opened.{Opened}
-use Rattle.hash.specs.declared.Stored.{Stored}
 pub use Rattle.form.specs.Size.{form_bytes, old_form_bytes, form_family}
 unfoldable pub use Rattle.form.specs.Size.{widened, current}
 unfoldable pub use Rattle.hash_parts.specs.Form.{restore_refusal}
@@ -24,6 +24,14 @@ old_form_of h =
 
 unfoldable pub store_refusal : Hash → List ℕ → ℕ
 store_refusal h out = cond (legal h) (cond (leb (form_bytes (family h)) (length out)) 0 6) 5
+
+pub record Stored : Type 0 where
+  pub hash : Hash
+  pub refusal : ℕ
+
+-- The answer of `store`, with the hash.
+abbrev pub stored_by : {A : Type 0} → Hash → Result A Refusal → Stored
+stored_by h answer = record { hash = h; refusal = number_of answer }
 
 unfoldable pub store_answer : Hash → List ℕ → Stored
 store_answer h out = record { hash = h; refusal = store_refusal h out }

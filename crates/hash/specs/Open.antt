@@ -1,7 +1,7 @@
 -- The open hash, elsewhere a hashing context. It stands for a state after all full blocks (the chaining value) and for the bits behind them,
 -- fewer than a block: the tail, elsewhere the buffered partial block. What follows is worked out from these two and the bit length, whether or
 -- not a message reaches them. To open, feed a piece and take are elsewhere init, update with a part of the input, and final.
-use Rattle.std.specs.Prelude.{Bool, true, cond, List, [], ◌++◌, ℕ, zero, suc, ◌+◌, ◌*◌, ◌-◌, ◌/◌, ◌%◌, ◌^◌, leb, length, take, drop}
+use Rattle.std.specs.Prelude.{Bool, true, cond, Result, Ok, Err, List, [], ◌++◌, ℕ, zero, suc, ◌+◌, ◌*◌, ◌-◌, ◌/◌, ◌%◌, ◌^◌, leb, length, take, drop}
 use Rattle.simd.specs.Basic.{Family, family_of, is_width, block_bits, digest_bytes, state_words, bytes_of, table}
 use Rattle.simd.specs.Constants.{start}
 use Rattle.simd.specs.Message.{bits_of, byte_of, message, message_blocks, length_block}
@@ -9,10 +9,25 @@ use Rattle.simd.specs.Steps.{compression}
 use Rattle.simd.specs.Hash.{chain, compressions}
 use Rattle.bits.specs.Zero.{padded}
 use Rattle.hash_parts.specs.Legal.{legal_parts}
+use Rattle.refusals.specs.declared.Refusal.{Refusal}
+use Rattle.refusals.specs.Numbers.{number, number_of}
 use Rattle.hash.specs.declared.Hash.{Hash}
-use Rattle.hash.specs.declared.Opened.{Opened}
-use Rattle.hash.specs.declared.Fed.{Fed}
-use Rattle.hash.specs.declared.Taken.{Taken}
+
+-- An answer: the hash after it, `blocks` compressed, and the refusal's number, or 0. A refusal leaves the hash as it was handed over; it is all
+-- zeros where none was (open, restore).
+pub record Opened : Type 0 where
+  pub hash : Hash
+  pub refusal : ℕ
+
+pub record Fed : Type 0 where
+  pub hash : Hash
+  pub blocks : ℕ
+  pub refusal : ℕ
+
+pub record Taken : Type 0 where
+  pub hash : Hash
+  pub blocks : ℕ
+  pub refusal : ℕ
 
 -- The longest message, in bits.
 abbrev pub limit : ℕ
@@ -49,6 +64,14 @@ unfoldable pub opened : ℕ → Hash → Opened
 opened zero h = record { hash = h; refusal = 0 }
 opened (suc r) h = record { hash = holding 0 0 [] []; refusal = suc r }
 
+-- The answer of `open` and of `restore`.
+abbrev pub opened_as : {A : Type 0} → Hash → Result A Refusal → Opened
+opened_as h answer = record { hash = h; refusal = number_of answer }
+
+abbrev pub opened_by : Result Hash Refusal → Opened
+opened_by (Ok h) = record { hash = h; refusal = 0 }
+opened_by (Err r) = record { hash = holding 0 0 [] []; refusal = number r }
+
 unfoldable pub open_answer : ℕ → Opened
 open_answer width = opened (open_refusal width) (holding width 0 (start width) [])
 
@@ -73,6 +96,11 @@ unfoldable pub fed : ℕ → Hash → List ℕ → Fed
 fed zero h m = record { hash = advanced h m; blocks = full_blocks h (length m); refusal = 0 }
 fed (suc r) h m = record { hash = h; blocks = 0; refusal = suc r }
 
+-- The answer of `feed`, with the hash after it.
+abbrev pub fed_by : Hash → Result ℕ Refusal → Fed
+fed_by h (Ok n) = record { hash = h; blocks = n; refusal = 0 }
+fed_by h (Err r) = record { hash = h; blocks = 0; refusal = number r }
+
 unfoldable pub feed_answer : Hash → List ℕ → ℕ → Fed
 feed_answer h piece count = fed (feed_refusal h piece count) h (message piece count)
 
@@ -93,6 +121,11 @@ take_refusal h out = cond (legal h) (cond (leb (digest_bytes h.width) (length ou
 unfoldable pub taken : ℕ → Hash → Taken
 taken zero h = record { hash = h; blocks = compressions (family h) (used h); refusal = 0 }
 taken (suc r) h = record { hash = h; blocks = 0; refusal = suc r }
+
+-- The answer of `take`, with the hash.
+abbrev pub taken_by : Hash → Result ℕ Refusal → Taken
+taken_by h (Ok n) = record { hash = h; blocks = n; refusal = 0 }
+taken_by h (Err r) = record { hash = h; blocks = 0; refusal = number r }
 
 unfoldable pub take_answer : Hash → List ℕ → Taken
 take_answer h out = taken (take_refusal h out) h

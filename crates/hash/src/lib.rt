@@ -1,14 +1,13 @@
-// The open hash: opened at a width, fed pieces of any number of bits, taken, stored and restored. Each method hands the hash back with its
-// answer. `refusal` is 0 where nothing is refused, and otherwise the number of what was; then the hash comes back as it was handed over,
-// or all zeros where none was (open, restore), no buffer is written to, and the rest of the answer is 0.
+// The open hash: opened at a width, fed pieces of any number of bits, taken, stored and restored. A refusal leaves the hash as it was, and no
+// buffer is written to. The hash is handed over and comes back beside the answer; methods of other names do the same in place.
 #![tactic(auto)]
 
-ghost use Rattle.std.specs.Prelude.{cond, ◌≡◌, []};
-ghost use Rattle.simd.specs.Basic.{table};
-ghost use Rattle.simd.specs.Message.{byte_of};
-ghost use Rattle.hash_parts.specs.Legal.{legal_parts};
-ghost use Rattle.hash.specs.Open.{holding, open_answer, piece_refusal, feed_answer, digest_of, take_refusal, take_answer, written};
-ghost use Rattle.hash.specs.Form.{form_of, store_refusal, store_answer, restore_answer};
+ghost use Rattle.std.specs.Prelude.{cond, ◌≡◌, leb, []};
+ghost use Rattle.refusals.specs.Numbers.{number_of};
+ghost use Rattle.hash.specs.Open.{holding, legal, open_answer, opened_as, opened_by, piece_refusal, feed_refusal, feed_answer, fed_by, digest_of, take_refusal, take_answer, taken_by, written};
+ghost use Rattle.hash.specs.Form.{form_of, store_refusal, store_answer, stored_by, restore_answer};
+
+use refusals::Refusal;
 
 // The longest message, in bits.
 pub const LIMIT: u64 = 18446744073709551615;
@@ -22,55 +21,43 @@ pub struct Hash {
     pub tail: [u8; 128],
 }
 
+// An answer and the hash after it. Refused, that is as it was handed over, or all zeros where none was (open, restore).
 #[derive(Clone, Copy)]
 pub struct Opened {
     pub hash: Hash,
-    pub refusal: u8,
+    pub result: Result<(), Refusal>,
 }
 
-// `blocks` is the number of blocks compressed.
+// The number of blocks compressed.
 #[derive(Clone, Copy)]
 pub struct Fed {
     pub hash: Hash,
-    pub blocks: usize,
-    pub refusal: u8,
+    pub result: Result<usize, Refusal>,
 }
 
 #[derive(Clone, Copy)]
 pub struct Taken {
     pub hash: Hash,
-    pub blocks: usize,
-    pub refusal: u8,
+    pub result: Result<usize, Refusal>,
 }
 
 #[derive(Clone, Copy)]
 pub struct Stored {
     pub hash: Hash,
-    pub refusal: u8,
+    pub result: Result<(), Refusal>,
 }
 
-// The number of a piece's refusal after so many bits, or 0.
-pub fn piece_refusal(bits: u64, piece: &[u8], count: usize) -> u8
-    ensures { result ≡ piece_refusal bits piece.now count }
+// Whether a piece goes behind so many bits. Refusals 2, 4.
+pub fn piece_refusal(bits: u64, piece: &[u8], count: usize) -> Result<(), Refusal>
+    ensures { number_of result ≡ piece_refusal bits piece.now count }
 {
     if piece.len() < bits::bytes_of_bits(count) {
-        return 2;
+        return Err(Refusal::Count);
     }
     if LIMIT - bits < count as u64 {
-        return 4;
+        return Err(Refusal::Total);
     }
-    0
-}
-
-// The same for a hash of these parts.
-fn feed_refusal(width: u16, bits: u64, state: &[u32], tail: &[u8], piece: &[u8], count: usize) -> u8
-    ensures { result ≡ cond (legal_parts width bits state.now tail.now) (piece_refusal bits piece.now count) 5 }
-{
-    if hash_parts::is_legal(width, bits, state, tail) {
-        piece_refusal(bits, piece, count)
-    } else {
-        5
-    }
+    Ok(())
 }
 
 // The hash that is none, in a refused answer.
@@ -80,144 +67,161 @@ pub fn zero_hash() -> Hash
     Hash {
         width: 0,
         bits: 0,
-        state: [0u32; 32],
-        tail: [0u8; 128],
+        state: [0; 32],
+        tail: [0; 128],
     }
 }
 
-fn no_tail() -> [u8; 128]
-    ensures { result ≡ table 128 (byte_of []) }
+fn handed_over(answer: Result<Hash, Refusal>) -> Opened
+    ensures { opened_as result.hash result.result ≡ opened_by answer }
 {
-    [0u8; 128]
-}
-
-// Writes the stored form of a hash, and answers the refusal's number: what `store` does, where the hash is not wanted back.
-pub fn write_stored(hash: Hash, out: &mut [u8]) -> u8
-    ensures { (result ≡ store_refusal hash out.old)
-        × (out.new ≡ written (store_refusal hash out.old) (form_of hash) out.old) }
-{
-    let width = hash.width;
-    let bits = hash.bits;
-    let state = hash.state;
-    let tail = hash.tail;
-    let length = hash_parts::form_bytes(width);
-    let refusal = hash_parts::output_refusal(width, bits, &state, &tail, length, out.len());
-    if refusal != 0 {
-        return refusal;
+    match answer {
+        Ok(hash) => Opened {
+            hash,
+            result: Ok(()),
+        },
+        Err(refusal) => Opened {
+            hash: zero_hash(),
+            result: Err(refusal),
+        },
     }
-    let size = tail::block_bytes(width);
-    form::write_form(width, bits, state, &tail, size, &mut out[0..length]);
-    0
 }
 
 impl Hash {
     // Opens a hash at a width. Refusal 1.
     pub fn open(width: u16) -> Opened
-        ensures { result ≡ open_answer width }
+        ensures { opened_as result.hash result.result ≡ open_answer width }
     {
-        if expansion::is_width(width) {
-            let state = hash_parts::start_state(width);
-            let tail = no_tail();
-            let hash = Hash {
-                width,
-                bits: 0,
-                state,
-                tail,
-            };
-            return Opened { hash, refusal: 0 };
-        }
-        let hash = zero_hash();
-        Opened { hash, refusal: 1 }
+        handed_over(Hash::at(width))
     }
 
     // Feeds the first `count` bits of a piece; what stands past them is ignored. Refusals 5, 2, 4.
     pub fn feed(mut self, piece: &[u8], count: usize) -> Fed
-        ensures { result ≡ feed_answer self piece.now count }
+        ensures { fed_by result.hash result.result ≡ feed_answer self piece.now count }
     {
-        let width = self.width;
-        let bits = self.bits;
-        let mut state = self.state;
-        let mut tail = self.tail;
-        let refusal = feed_refusal(width, bits, &state, &tail, piece, count);
-        if refusal != 0 {
-            return Fed {
-                hash: self,
-                blocks: 0,
-                refusal,
-            };
-        }
-        let bytes = bits::bytes_of_bits(count);
-        let used = tail::used_bits(width, bits);
-        let full = advance::advance(width, used, &mut state, &mut tail, &piece[0..bytes], count);
-        self.bits = bits + count as u64;
-        self.state = state;
-        self.tail = tail;
-        Fed {
-            hash: self,
-            blocks: full,
-            refusal: 0,
-        }
+        let result = self.absorb(piece, count);
+        Fed { hash: self, result }
     }
 
     // Writes the digest of all bits fed so far; the hash stays open. Refusals 5, 6.
     pub fn take(self, out: &mut [u8]) -> Taken
-        ensures { (result ≡ take_answer self out.old)
+        ensures { (taken_by result.hash result.result ≡ take_answer self out.old)
             × (out.new ≡ written (take_refusal self out.old) (digest_of self) out.old) }
     {
-        let width = self.width;
-        let bits = self.bits;
-        let mut state = self.state;
-        let tail = self.tail;
-        let length = tail::digest_bytes(width);
-        let refusal = hash_parts::output_refusal(width, bits, &state, &tail, length, out.len());
-        if refusal != 0 {
-            return Taken {
-                hash: self,
-                blocks: 0,
-                refusal,
-            };
-        }
-        let compressed = tail::close(width, bits, &mut state, &tail);
-        little_endian::write_words(&mut out[0..length], state);
-        Taken {
-            hash: self,
-            blocks: compressed,
-            refusal: 0,
-        }
+        let result = self.write_digest(out);
+        Taken { hash: self, result }
     }
 
     // Writes the stored form: 138 or 266 bytes. Refusals 5, 6.
     pub fn store(self, out: &mut [u8]) -> Stored
-        ensures { (result ≡ store_answer self out.old)
+        ensures { (stored_by result.hash result.result ≡ store_answer self out.old)
             × (out.new ≡ written (store_refusal self out.old) (form_of self) out.old) }
     {
-        let refusal = write_stored(self, out);
-        Stored {
-            hash: self,
-            refusal,
-        }
+        let result = self.write_form(out);
+        Stored { hash: self, result }
     }
 
     // The hash of a stored form, of today's size or the old one. Refusals 8, 1, 8, 9.
     pub fn restore(form: &[u8]) -> Opened
-        ensures { result ≡ restore_answer form.now }
+        ensures { opened_as result.hash result.result ≡ restore_answer form.now }
     {
-        let refusal = hash_parts::restore_refusal(form);
-        if refusal != 0 {
-            let hash = zero_hash();
-            return Opened { hash, refusal };
+        handed_over(Hash::of_form(form))
+    }
+
+    // What `open` answers, and no hash where it is refused.
+    pub fn at(width: u16) -> Result<Hash, Refusal>
+        ensures { opened_by result ≡ open_answer width }
+    {
+        if !expansion::is_width(width) {
+            return Err(Refusal::Width);
         }
+        Ok(Hash {
+            width,
+            bits: 0,
+            state: hash_parts::start_state(width),
+            tail: [0; 128],
+        })
+    }
+
+    fn feed_refusal(&self, piece: &[u8], count: usize) -> Result<(), Refusal>
+        ensures { number_of result ≡ feed_refusal self.now piece.now count }
+    {
+        if !hash_parts::is_legal(self.width, self.bits, &self.state, &self.tail) {
+            return Err(Refusal::Hash);
+        }
+        piece_refusal(self.bits, piece, count)
+    }
+
+    // What `feed` does, in place. Answers the number of blocks compressed.
+    pub fn absorb(&mut self, piece: &[u8], count: usize) -> Result<usize, Refusal>
+        ensures { fed_by self.new result ≡ feed_answer self.old piece.now count }
+    {
+        self.feed_refusal(piece, count)?;
+        let bytes = bits::bytes_of_bits(count);
+        let used = tail::used_bits(self.width, self.bits);
+        let blocks = advance::advance(
+            self.width,
+            used,
+            &mut self.state,
+            &mut self.tail,
+            &piece[..bytes],
+            count,
+        );
+        self.bits += count as u64;
+        Ok(blocks)
+    }
+
+    // Whether the hash is written to an output of `room` bytes, of which it needs so many.
+    fn output_refusal(&self, needed: usize, room: usize) -> Result<(), Refusal>
+        ensures { number_of result ≡ cond (legal self.now) (cond (leb needed room) 0 6) 5 }
+    {
+        hash_parts::output_refusal(self.width, self.bits, &self.state, &self.tail, needed, room)
+    }
+
+    // What `take` does. Answers the number of blocks compressed.
+    pub fn write_digest(&self, out: &mut [u8]) -> Result<usize, Refusal>
+        ensures { (taken_by self.now result ≡ take_answer self.now out.old)
+            × (out.new ≡ written (take_refusal self.now out.old) (digest_of self.now) out.old) }
+    {
+        let length = tail::digest_bytes(self.width);
+        self.output_refusal(length, out.len())?;
+        let mut state = self.state;
+        let compressed = tail::close(self.width, self.bits, &mut state, &self.tail);
+        little_endian::write_words(&mut out[..length], state);
+        Ok(compressed)
+    }
+
+    // What `store` does.
+    pub fn write_form(&self, out: &mut [u8]) -> Result<(), Refusal>
+        ensures { (stored_by self.now result ≡ store_answer self.now out.old)
+            × (out.new ≡ written (store_refusal self.now out.old) (form_of self.now) out.old) }
+    {
+        let length = hash_parts::form_bytes(self.width);
+        self.output_refusal(length, out.len())?;
+        let size = tail::block_bytes(self.width);
+        form::write_form(
+            self.width,
+            self.bits,
+            self.state,
+            &self.tail,
+            size,
+            &mut out[..length],
+        );
+        Ok(())
+    }
+
+    // What `restore` answers, and no hash where it is refused.
+    pub fn of_form(form: &[u8]) -> Result<Hash, Refusal>
+        ensures { opened_by result ≡ restore_answer form.now }
+    {
+        hash_parts::restore_refusal(form)?;
         let width = form::read_width(form);
         let size = tail::block_bytes(width);
-        let bits = form::form_bits(form, size);
-        let state = form::form_state(form, size);
-        let tail = form::form_tail(form, size);
-        let hash = Hash {
+        Ok(Hash {
             width,
-            bits,
-            state,
-            tail,
-        };
-        Opened { hash, refusal: 0 }
+            bits: form::form_bits(form, size),
+            state: form::form_state(form, size),
+            tail: form::form_tail(form, size),
+        })
     }
 }

@@ -1,37 +1,24 @@
 -- Laws of refusals: one for each way out of a check.
 use mathlib.Core.Bool.{Bool, true, false, cond, ◌||◌}
 use mathlib.Core.List.{List}
-use mathlib.Core.Path.{◌≡◌, refl, sym, ◌∙◌}
-use Prim.Native.Nat.{ℕ, suc, ◌+◌, ◌/◌, ◌%◌, ◌<◌, ◌≤◌}
+use mathlib.Core.Path.{◌≡◌, refl, sym, ap, ◌∙◌}
+use Prim.Native.Nat.{ℕ, suc, ◌+◌, ◌/◌, ◌%◌, ◌-◌, ◌<◌, ◌≤◌}
 use native.Mathlib.Omega.{arith}
 use native.Mathlib.Decide.{ℕ_discrete}
-use borrow.Author.Tests.{le-leb, lt-leb, eq-eqb, ne_eqb}
+use borrow.Author.Tests.{le-leb, lt-leb, eq-eqb, ne_eqb, eqb-true, eqb-false}
 use lib.Dec.{leb, eqb}
-use lib.ListN.{length, drop}
+use lib.ListN.{length, take, drop}
 use Rattle.simd.specs.Basic.{Family, family_of, is_width, block_bytes, block_bits, state_words}
-use Rattle.bits.specs.Zero.{all_zero, clear}
+use Rattle.bits.specs.Zero.{clear}
+use Rattle.bits.proofs.Parts.{back}
 use Rattle.form.specs.Head.{form_width, form_bits, head_bytes}
 use Rattle.form.specs.Size.{old_form_bytes, current}
-use Rattle.form.proofs.Current.{current_same, old_size}
-use Rattle.hash_parts.specs.Legal.{legal_parts}
+use Rattle.form.proofs.Current.{current_same, old_size, current_long, current_width, current_rest, at_least}
 use Rattle.hash_parts.specs.Form.{form_bytes, form_family, restore_refusal}
 
 -- Words of a state of 16 R bytes.
 pub quarter : (f : Family) (size : ℕ) → size ≡ block_bytes f → size / 4 ≡ state_words f
 quarter f size same = omega arith
-
--- The ways out of the check of a hash.
-module _ (width bits : ℕ) (state tail : List ℕ) where
-  pub unknown_width : is_width width ≡ false → false ≡ legal_parts width bits state tail
-  unknown_width unknown = rw unknown
-
-  pub word_set : is_width width ≡ true → all_zero (drop (state_words (family_of width)) state) ≡ false
-      → false ≡ legal_parts width bits state tail
-  word_set known word = rw (known, word)
-
-  pub tail_decides : is_width width ≡ true → all_zero (drop (state_words (family_of width)) state) ≡ true
-      → clear (bits % block_bits (family_of width)) tail ≡ legal_parts width bits state tail
-  tail_decides known zeros = rw (known, zeros)
 
 -- The ways out of the check of a hash and an output.
 module _ (legal : Bool) (needed room : ℕ) where
@@ -44,19 +31,9 @@ module _ (legal : Bool) (needed room : ℕ) where
   pub room_short : legal ≡ true → room < needed → ◌≡◌ {A = ℕ} 6 (cond legal (cond (leb needed room) 0 6) 5)
   room_short good short = rw (good, lt-leb needed room short)
 
--- The ways out of the test of a form's size. The old size is the smaller one.
+-- Whether a form has one of the two sizes.
 abbrev either : Family → ℕ → Bool
 either f n = eqb n (form_bytes f) || eqb n (old_form_bytes f)
-
-module _ (f : Family) (n full : ℕ) (size : full ≡ form_bytes f) where
-  pub size_above : full ≤ n → eqb n full ≡ either f n
-  size_above above = elim (ℕ_discrete n full) [
-    | yes same ↦ rw (eq-eqb n full same, eq-eqb n (form_bytes f) (same ∙ size))
-    | no other ↦ rw (ne_eqb n full other, ne_eqb n (form_bytes f) (λ same. other (same ∙ sym size)), ne_eqb n (old_form_bytes f) (λ old. omega arith))
-  ]
-
-  pub size_below : (old : ℕ) → old ≡ old_form_bytes f → n < full → eqb n old ≡ either f n
-  size_below old same below = rw (ne_eqb n (form_bytes f) (λ full. omega arith), same)
 
 -- A form has one of the two sizes where the form that it stands for has that of today.
 or_false : (b : Bool) → (b || false) ≡ b
@@ -102,6 +79,40 @@ module _ (form : List ℕ) where
       unfolding restore_refusal
       form_decides block used last left size =
           rw (le-leb 2 (length form) long, ← same, known, eq-eqb (length form) (form_bytes (family_of width)) size, last, left)
+
+-- The same of a form that stands for another, its `current` one: the facts about its width, its size and its last bits are those that the tests have.
+module _ (form : List ℕ) {width : ℕ} (same : width ≡ form_width form) where
+  -- The width is that of the form stood for.
+  pub named : width ≡ form_width (current form)
+  named = same ∙ sym (current_width form)
+
+  module _ {b : Bool} (test : b ≡ either (family_of width) (length form)) where
+    pub size_right : b ≡ true → length (current form) ≡ form_bytes (family_of width)
+    size_right good = eqb-true _ _ (sym (size_told form width same) ∙ sym test ∙ good)
+
+    pub size_wrong : b ≡ false → length (current form) ≡ form_bytes (family_of width) → ⊥
+    size_wrong bad = eqb-false _ _ (sym (size_told form width same) ∙ sym test ∙ bad)
+
+    pub size_whole : b ≡ true → length (current form) ≡ form_bytes (form_family form)
+    size_whole good = rw (← same) (size_right good)
+
+  module _ {size : ℕ} (sized : size ≡ block_bytes (family_of width)) where
+    pub block_whole : size ≡ block_bytes (form_family form)
+    block_whole = rw (← same) sized
+
+    pub tail_told : 2 ≤ length form → is_width width ≡ true → length (current form) ≡ form_bytes (family_of width)
+        → {bits used : ℕ} {b : Bool} → bits ≡ form_bits (current form) → used ≡ bits % block_bits (family_of width)
+        → b ≡ clear used (take (length form - (length form - size)) (drop (length form - size) form))
+        → cond b 0 9 ≡ restore_refusal (current form)
+    tail_told long known whole {used = used} counted last told =
+        let whole' : length (current form) ≡ form_bytes (form_family form) = rw (← same) whole in
+        let behind =
+        back (length form - size) form
+        ∙ current_rest form whole' (block_bytes (form_family form)) (length form - size) (omega (arith, block_whole, at_least form whole'))
+        ∙ ap (λ (n : ℕ). drop (head_bytes + block_bytes (family_of n)) (current form)) (sym same) in
+        ap (λ (c : Bool). cond c 0 9) told
+        ∙ form_decides (current form) (current_long form long) width named known _ used behind
+        (last ∙ ap (λ (n : ℕ). n % block_bits (family_of width)) counted) whole
 
 -- What is not refused has passed each test.
 pub passed : (test : Bool) (x n : ℕ) → cond test x (suc n) ≡ 0 → (test ≡ true) × (x ≡ 0)

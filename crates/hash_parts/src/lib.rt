@@ -8,38 +8,33 @@ ghost use Rattle.bits.specs.Zero.{padded};
 ghost use Rattle.hash_parts.specs.Legal.{legal_parts};
 ghost use Rattle.form.specs.Head.{head_bytes};
 ghost use Rattle.form.specs.Size.{form_bytes, old_form_bytes, current};
+ghost use Rattle.refusals.specs.Numbers.{number_of};
 ghost use Rattle.hash_parts.specs.Form.{restore_refusal};
+
+use refusals::Refusal;
 
 // The starting state of a width.
 pub fn start_state(width: u16) -> [u32; 32]
     ensures { result ≡ padded 32 (start width) }
 {
-    if width == 224 {
-        return tail::widen(compression::start_224());
+    match width {
+        224 => tail::widen(compression::start_224()),
+        256 => tail::widen(compression::start_256()),
+        384 => compression::start_384(),
+        _ => compression::start_512(),
     }
-    if width == 256 {
-        return tail::widen(compression::start_256());
-    }
-    if width == 384 {
-        return compression::start_384();
-    }
-    compression::start_512()
 }
 
 // Whether a hash of these parts is legal.
 pub fn is_legal(width: u16, bits: u64, state: &[u32], tail: &[u8]) -> bool
     ensures { result ≡ legal_parts width bits state.now tail.now }
 {
-    if !expansion::is_width(width) {
-        return false;
-    }
-    if !bits::words_zero(state, tail::block_bytes(width) / 4) {
-        return false;
-    }
-    bits::bits_zero(tail, tail::used_bits(width, bits))
+    expansion::is_width(width)
+        && bits::words_zero(state, tail::block_bytes(width) / 4)
+        && bits::bits_zero(tail, tail::used_bits(width, bits))
 }
 
-// Why a hash of these parts writes nothing to an output of `room` bytes that needs so many, or 0.
+// Whether a hash of these parts writes to an output of `room` bytes that needs so many. Refusals 5, 6.
 pub fn output_refusal(
     width: u16,
     bits: u64,
@@ -47,14 +42,16 @@ pub fn output_refusal(
     tail: &[u8],
     needed: usize,
     room: usize,
-) -> u8
-    ensures { result ≡ cond (legal_parts width bits state.now tail.now) (cond (leb needed room) 0 6) 5 }
+) -> Result<(), Refusal>
+    ensures { number_of result ≡ cond (legal_parts width bits state.now tail.now) (cond (leb needed room) 0 6) 5 }
 {
-    if is_legal(width, bits, state, tail) {
-        if needed <= room { 0 } else { 6 }
-    } else {
-        5
+    if !is_legal(width, bits, state, tail) {
+        return Err(Refusal::Hash);
     }
+    if room < needed {
+        return Err(Refusal::Output);
+    }
+    Ok(())
 }
 
 // The bytes of a head, and of a state and a block behind it.
@@ -84,33 +81,29 @@ fn is_form_size(width: u16, length: usize) -> bool
     ensures { result ≡ (eqb length (form_bytes (family_of width)) || eqb length (old_form_bytes (family_of width))) }
 {
     let full = form_bytes(width);
-    if full <= length {
-        return length == full;
-    }
-    length == old_form_bytes(width)
+    let old = old_form_bytes(width);
+    length == full || length == old
 }
 
-// Why a byte string is no form, or 0.
-pub fn restore_refusal(form: &[u8]) -> u8
-    ensures { result ≡ restore_refusal (current form.now) }
+// Whether a byte string is a form. Refusals 8, 1, 8, 9.
+pub fn restore_refusal(form: &[u8]) -> Result<(), Refusal>
+    ensures { number_of result ≡ restore_refusal (current form.now) }
 {
     let length = form.len();
     if length < 2 {
-        return 8;
+        return Err(Refusal::Form);
     }
     let width = form::read_width(form);
     if !expansion::is_width(width) {
-        return 1;
+        return Err(Refusal::Width);
     }
     if !is_form_size(width, length) {
-        return 8;
+        return Err(Refusal::Form);
     }
     let size = tail::block_bytes(width);
     let bits = form::form_bits(form, size);
-    let middle = length - size;
-    if bits::bits_zero(&form[middle..length], tail::used_bits(width, bits)) {
-        0
-    } else {
-        9
+    if !bits::bits_zero(&form[length - size..], tail::used_bits(width, bits)) {
+        return Err(Refusal::Tail);
     }
+    Ok(())
 }

@@ -17,10 +17,9 @@ use Rattle.simd.specs.Steps.{compression}
 use Rattle.simd.specs.Hash.{chain, final, final_state, digest, compressions}
 use Rattle.laws.proofs.Table.{length_table}
 use Rattle.laws.proofs.Bits.{Bits, bits_of_bytes, length_bits_of}
-use Rattle.hash.specs.Open.{limit, family, used, reached, pending, holding, legal, open_refusal, opened, open_answer}
+use Rattle.hash.specs.Open.{Opened, limit, family, used, reached, pending, holding, legal, open_refusal, opened, open_answer}
 use Rattle.hash.specs.Open.{full_blocks, advanced, feed_answer, final_of, digest_of, take_refusal, taken, take_answer, written}
 use Rattle.hash.specs.declared.Hash.{Hash}
-use Rattle.hash.specs.declared.Opened.{Opened}
 use Rattle.bits.specs.Zero.{clear}
 use Rattle.form.specs.Head.{head_bytes, form_width, form_bits}
 use Rattle.form.proofs.Current.{current_today, current_old, current_current, current_width, current_long, current_fits, two_sizes, old_size, today_size}

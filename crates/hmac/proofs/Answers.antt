@@ -11,23 +11,22 @@ use Rattle.simd.specs.Basic.{family_of, is_width, block_bytes, digest_bytes}
 use Rattle.simd.specs.Message.{message}
 use Rattle.simd.specs.Hash.{compressions}
 use Rattle.bits.specs.Zero.{padded}
-use Rattle.hash.specs.Open.{limit, family, used, fed as hashFed, feed_refusal as hashRefusal, feed_answer as hashAnswer, written}
+use Rattle.std.specs.Prelude.{Result, Ok, Err}
+use Rattle.refusals.specs.declared.Refusal.{Refusal}
+use Rattle.refusals.specs.Numbers.{number}
+use Rattle.hash.specs.Open.{Fed as HashFed, limit, family, used, fed as hashFed, fed_by as hashFed_by, feed_refusal as hashRefusal, feed_answer as hashAnswer, written}
 use Rattle.hash.specs.declared.Hash.{Hash}
-use Rattle.hash.specs.declared.Fed.{Fed as HashFed}
 use Rattle.hash.proofs.Refusing.{passed, written_refused}
 use Rattle.pairs.specs.Lists.{equal}
 use Rattle.hmac_key.specs.Hmac.{ipad, opad, key_block, masked}
 use Rattle.hmac_key.specs.Refusal.{key_refusal}
+use Rattle.hmac_key.proofs.Bytes.{not_0}
 use Rattle.hmac_key.proofs.KeyBlock.{masked_front}
 use Rattle.hmac_parts.specs.Keyed.{begun, keyed, tag_from}
 use Rattle.hmac_parts.proofs.Keyed.{keyed_facts}
-use Rattle.hmac.specs.Keyed.{legal, width, no_hmac, opened, opening, open_answer, feed_refusal, fed, feed_answer, tag_of}
-use Rattle.hmac.specs.Keyed.{take_refusal, taken, take_answer, check_answer}
+use Rattle.hmac.specs.Keyed.{Opened, Fed, Taken, Checked, legal, width, no_hmac, opened, opened_by, opening, open_answer, feed_refusal, fed, fed_by, feed_answer}
+use Rattle.hmac.specs.Keyed.{tag_of, take_refusal, taken, take_answer, check_answer}
 use Rattle.hmac.specs.declared.Hmac.{Hmac}
-use Rattle.hmac.specs.declared.Opened.{Opened}
-use Rattle.hmac.specs.declared.Fed.{Fed}
-use Rattle.hmac.specs.declared.Taken.{Taken}
-use Rattle.hmac.specs.declared.Checked.{Checked}
 
 -- Opened.
 pub refused_none : (r : ℕ) (k : Hmac) → (r ≡ 0 → ⊥) → record { hmac = no_hmac; refusal = r } ≡ opened r k
@@ -39,28 +38,29 @@ pub record Accepted (w : ℕ) (key : List ℕ) : Type 0 where
   pub known : is_width w ≡ true
   pub short : 8 * length key ≤ limit
 
-module _ (w : ℕ) (key : List ℕ) (r : ℕ) (same : r ≡ key_refusal w (length key)) where
-  pub open_refused : (r ≡ 0 → ⊥) → {o : Opened} → o ≡ record { hmac = no_hmac; refusal = r } → o ≡ open_answer w key
+module _ (w : ℕ) (key : List ℕ) where
+  pub open_refused : (r : Refusal) → number r ≡ key_refusal w (length key) → opened_by (Err r) ≡ open_answer w key
   unfolding open_answer
-  open_refused some {o} none = none ∙ refused_none r (opening w key) some ∙ ap (λ (r : ℕ). opened r (opening w key)) same
-
-  pub open_accepted : r ≡ 0 → Accepted w key
-  unfolding key_refusal
-  open_accepted none =
-      let one = passed (is_width w) _ 0 (sym same ∙ none) in
-      record { known = one.0; short = leb-true (8 * length key) limit (passed (leb (8 * length key) limit) 0 3 one.1).0 }
+  open_refused r same = refused_none (number r) (opening w key) (not_0 r) ∙ ap (λ (n : ℕ). opened n (opening w key)) same
 
   -- The block masked, a hash begun with it.
   pub begun_with : {h : Hash} {block m : List ℕ} (pad size : ℕ) → block ≡ padded 128 (key_block w key) → m ≡ masked pad block
-      → size ≡ block_bytes (family_of w) → h ≡ begun w (take (size - 0) m) → h ≡ begun w (masked pad (key_block w key))
+      → size ≡ block_bytes (family_of w) → h ≡ begun w (take size m) → h ≡ begun w (masked pad (key_block w key))
   begun_with pad size filled mask sized begin =
-      begin ∙ ap (λ (l : List ℕ). begun w (take (size - 0) l)) (mask ∙ ap (masked pad) filled) ∙ ap (begun w) (masked_front w key pad size sized)
+      begin ∙ ap (λ (l : List ℕ). begun w (take size l)) (mask ∙ ap (masked pad) filled) ∙ ap (begun w) (masked_front w key pad size sized)
 
-  pub open_answered : r ≡ 0 → {inner outer : Hash} → inner ≡ begun w (masked ipad (key_block w key)) → outer ≡ begun w (masked opad (key_block w key))
-      → record { hmac = record { inner = inner; outer = outer }; refusal = 0 } ≡ open_answer w key
-  unfolding open_answer opened opening
-  open_answered none first second =
-      rw (sym same ∙ none) (λ i. record { hmac = record { inner = first i; outer = second i }; refusal = 0 })
+  module _ (same : 0 ≡ key_refusal w (length key)) where
+    pub open_accepted : Accepted w key
+    unfolding key_refusal
+    open_accepted =
+        let one = passed (is_width w) _ 0 (sym same) in
+        record { known = one.0; short = leb-true (8 * length key) limit (passed (leb (8 * length key) limit) 0 3 one.1).0 }
+
+    pub open_answered : {inner outer : Hash} → inner ≡ begun w (masked ipad (key_block w key)) → outer ≡ begun w (masked opad (key_block w key))
+        → opened_by (Ok (record { inner = inner; outer = outer })) ≡ open_answer w key
+    unfolding open_answer opened opening
+    open_answered first second =
+        rw (sym same) (λ i. record { hmac = record { inner = first i; outer = second i }; refusal = 0 })
 
 -- Fed.
 fed_both : (r : ℕ) (k : Hmac) (m : List ℕ)
@@ -90,6 +90,17 @@ module _ (k : Hmac) (piece : List ℕ) (count : ℕ) where
       (λ i. record { hmac = record { inner = (e i).hash; outer = k.outer }; blocks = (e i).blocks; refusal = (e i).refusal })
       ∙ fed_both (hashRefusal k.inner piece count) k (message piece count)
       ∙ ap (λ (r : ℕ). fed r k (message piece count)) (same_refusal good)
+
+-- What a feed of the inner hash answers is what the keyed one answers.
+pub fed_inner : (inner outer : Hash) (r : Result ℕ Refusal)
+    → fed_by (record { inner = inner; outer = outer }) r
+    ≡ record {
+      hmac = record { inner = (hashFed_by inner r).hash; outer = outer };
+      blocks = (hashFed_by inner r).blocks;
+      refusal = (hashFed_by inner r).refusal;
+    }
+fed_inner inner outer (Ok n) = refl
+fed_inner inner outer (Err r) = refl
 
 -- Taken.
 taken_refused : (r : ℕ) (k : Hmac) → (r ≡ 0 → ⊥) → record { hmac = k; blocks = 0; refusal = r } ≡ taken r k

@@ -10,10 +10,9 @@ use lib.Dec.{leb}
 use lib.ListN.{length, take, drop, length-drop, length-append, drop_of_length-le}
 use lib.Seq.{take_at, drop_at, take_all, drop-drop}
 use Rattle.simd.specs.Basic.{family_of}
-use Rattle.hash.specs.Open.{family, legal as hashLegal, written}
+use Rattle.hash.specs.Open.{Opened as HashOpened, family, legal as hashLegal, written}
 use Rattle.hash.specs.Form.{form_bytes, form_of, store_refusal as hashRefusal, restore_answer as restored}
 use Rattle.hash.specs.declared.Hash.{Hash}
-use Rattle.hash.specs.declared.Opened.{Opened as HashOpened}
 use Rattle.hash.proofs.Refusing.{passed, first_refused, first_accepted, written_refused, written_accepted}
 use Rattle.hash_theorems.proofs.Held.{Long}
 use Rattle.hash_theorems.proofs.Storing.{form_length}
@@ -22,7 +21,6 @@ use Rattle.hmac_parts.proofs.Keyed.{IsKeyed, keyed_facts}
 use Rattle.hmac.specs.Keyed.{legal, width, no_hmac, opened}
 use Rattle.hmac.specs.Form.{keyed_form, store_refusal, store_answer, front, back, hmac_of, keyed_refusal, restore_answer}
 use Rattle.hmac.specs.declared.Hmac.{Hmac}
-use Rattle.hmac.specs.declared.Opened.{Opened}
 use Rattle.hmac.proofs.Answers.{refused_none}
 
 -- A hash stored with room for it.
@@ -71,6 +69,12 @@ module _ (k : Hmac) (out : List ℕ) (r half : ℕ) (size : half ≡ form_bytes 
         store_written k.inner (store_facts none).0.inner_legal out _ (omega (arith, (store_facts none).1, size)) wrote
         ∙ ap (λ (n : ℕ). a ++ drop n out) a_size
 
+    pub inner_fits : hashRefusal k.inner out ≡ 0
+    unfolding hashRefusal
+    inner_fits =
+        let room : form_bytes (family k.inner) ≤ length out = omega (arith, (store_facts none).1, size) in
+        rw ((store_facts none).0.inner_legal, le-leb (form_bytes (family k.inner)) (length out) room)
+
     pub stored_length : {one : List ℕ} → one ≡ written (hashRefusal k.inner out) a out → length one ≡ length out
     stored_length {one} wrote =
         ap length (first_out wrote) ∙ omega (arith, length-append a (drop half out), length-drop half out, a_size, (store_facts none).1)
@@ -79,6 +83,16 @@ module _ (k : Hmac) (out : List ℕ) (r half : ℕ) (size : half ≡ form_bytes 
     rest {one} wrote =
         take_all (length one - half) (drop half one) (omega (arith, length-drop half one))
         ∙ ap (drop half) (first_out wrote) ∙ drop_at a (drop half out) half a_size
+
+    room_behind : {one : List ℕ} → one ≡ written (hashRefusal k.inner out) a out
+        → form_bytes (family k.outer) ≤ length (mid_of half (length one - half) one)
+    room_behind wrote =
+        omega (arith, ap length (rest wrote), length-drop half out, form_length k.outer outer_long, b_size, (store_facts none).1)
+
+    pub outer_fits : {one : List ℕ} → one ≡ written (hashRefusal k.inner out) a out → hashRefusal k.outer (mid_of half (length one - half) one) ≡ 0
+    unfolding hashRefusal
+    outer_fits {one} wrote =
+        rw ((store_facts none).0.outer_legal, le-leb (form_bytes (family k.outer)) (length (mid_of half (length one - half) one)) (room_behind wrote))
 
     pub store_answered : {one two : List ℕ} → one ≡ written (hashRefusal k.inner out) a out
         → two ≡ written (hashRefusal k.outer (mid_of half (length one - half) one)) b (mid_of half (length one - half) one)
@@ -91,10 +105,8 @@ module _ (k : Hmac) (out : List ℕ) (r half : ℕ) (size : half ≡ form_bytes 
         let mid = rest Wrote-one in
         let past : post_of half (length one - half) one ≡ [] =
         drop_of_length-le (drop half one) {i = length one - half} (omega (arith, length-drop half one)) in
-        let enough : form_bytes (family k.outer) ≤ length (mid_of half (length one - half) one) =
-        omega (arith, ap length mid, length-drop half out, form_length k.outer outer_long, b_size, (store_facts none).1) in
         let behind : two ≡ b ++ drop half (drop half out) =
-        store_written k.outer (store_facts none).0.outer_legal _ two enough wrote-two ∙ (λ i. b ++ drop (b_size i) (mid i)) in
+        store_written k.outer (store_facts none).0.outer_legal _ two (room_behind Wrote-one) wrote-two ∙ (λ i. b ++ drop (b_size i) (mid i)) in
         let start : take half one ≡ a = ap (take half) left ∙ take_at a (drop half out) half a_size in
         let whole : length (a ++ b) ≡ half + half = length-append a b ∙ (λ i. a_size i + b_size i) in
         rw accepted (
@@ -107,24 +119,24 @@ module _ (k : Hmac) (out : List ℕ) (r half : ℕ) (size : half ≡ form_bytes 
 -- Restored.
 module _ (form : List ℕ) where
   module _ {a : HashOpened} (one : a ≡ restored (front form)) where
-    pub front_refused : (a.refusal ≡ 0 → ⊥) → {o : Opened} → o ≡ record { hmac = no_hmac; refusal = a.refusal } → o ≡ restore_answer form
+    pub front_refused : (a.refusal ≡ 0 → ⊥) → record { hmac = no_hmac; refusal = a.refusal } ≡ restore_answer form
     unfolding restore_answer keyed_refusal
-    front_refused some {o} none =
+    front_refused some =
         let e = ap (λ (a : HashOpened). a.refusal) one in
         let r = first_refused (restored (front form)).refusal _ (λ z. some (e ∙ z)) in
-        none ∙ refused_none a.refusal (hmac_of form) some ∙ ap (λ (r : ℕ). opened r (hmac_of form)) (e ∙ sym r)
+        refused_none a.refusal (hmac_of form) some ∙ ap (λ (r : ℕ). opened r (hmac_of form)) (e ∙ sym r)
 
     module _ (first_none : a.refusal ≡ 0) {b : HashOpened} (two : b ≡ restored (back form)) where
       one_none : (restored (front form)).refusal ≡ 0
       one_none = sym (ap (λ (a : HashOpened). a.refusal) one) ∙ first_none
 
-      pub back_refused : (b.refusal ≡ 0 → ⊥) → {o : Opened} → o ≡ record { hmac = no_hmac; refusal = b.refusal } → o ≡ restore_answer form
+      pub back_refused : (b.refusal ≡ 0 → ⊥) → record { hmac = no_hmac; refusal = b.refusal } ≡ restore_answer form
       unfolding restore_answer keyed_refusal
-      back_refused some {o} none =
+      back_refused some =
           let e = ap (λ (a : HashOpened). a.refusal) two in
           let r = first_accepted (restored (front form)).refusal _ one_none
           ∙ first_refused (restored (back form)).refusal _ (λ z. some (e ∙ z)) in
-          none ∙ refused_none b.refusal (hmac_of form) some ∙ ap (λ (r : ℕ). opened r (hmac_of form)) (e ∙ sym r)
+          refused_none b.refusal (hmac_of form) some ∙ ap (λ (r : ℕ). opened r (hmac_of form)) (e ∙ sym r)
 
       module _ (second_none : b.refusal ≡ 0) where
         last : (t : _) → keyed a.hash b.hash ≡ t → keyed_refusal form ≡ cond t 0 5
@@ -134,9 +146,9 @@ module _ (form : List ℕ) where
             ∙ first_accepted (restored (back form)).refusal _ (sym (ap (λ (a : HashOpened). a.refusal) two) ∙ second_none)
             ∙ ap (λ t. cond t 0 5) (sym (λ i. keyed (one i).hash (two i).hash) ∙ e)
 
-        pub not_keyed : keyed a.hash b.hash ≡ false → {o : Opened} → o ≡ record { hmac = no_hmac; refusal = 5 } → o ≡ restore_answer form
+        pub not_keyed : keyed a.hash b.hash ≡ false → record { hmac = no_hmac; refusal = 5 } ≡ restore_answer form
         unfolding restore_answer opened
-        not_keyed bad none = none ∙ sym (ap (λ (r : ℕ). opened r (hmac_of form)) (last false bad))
+        not_keyed bad = sym (ap (λ (r : ℕ). opened r (hmac_of form)) (last false bad))
 
         pub both_restored : keyed a.hash b.hash ≡ true → record { hmac = record { inner = a.hash; outer = b.hash }; refusal = 0 } ≡ restore_answer form
         unfolding restore_answer opened hmac_of

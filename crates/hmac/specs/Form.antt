@@ -1,12 +1,12 @@
 -- The stored form of a keyed hash: that of the inner hash, and then that of the outer one.
-use Rattle.std.specs.Prelude.{cond, List, ◌++◌, ℕ, ◌*◌, ◌/◌, leb, length, take, drop}
+use Rattle.std.specs.Prelude.{cond, Result, List, ◌++◌, ℕ, ◌*◌, ◌/◌, leb, length, take, drop}
 use Rattle.simd.specs.Basic.{family_of}
 use Rattle.hash.specs.Open.{first}
 use Rattle.hash.specs.Form.{form_bytes, form_of, old_form_of, current, restore_answer as restored}
-use Rattle.hmac.specs.Keyed.{legal, width, opened}
+use Rattle.refusals.specs.declared.Refusal.{Refusal}
+use Rattle.refusals.specs.Numbers.{number_of}
+use Rattle.hmac.specs.Keyed.{Opened, legal, width, opened}
 use Rattle.hmac.specs.declared.Hmac.{Hmac}
-use Rattle.hmac.specs.declared.Opened.{Opened}
-use Rattle.hmac.specs.declared.Stored.{Stored}
 
 unfoldable pub keyed_form : Hmac → List ℕ
 keyed_form k = form_of k.inner ++ form_of k.outer
@@ -18,6 +18,14 @@ old_keyed_form k = old_form_of k.inner ++ old_form_of k.outer
 -- Store: 5, then 6.
 unfoldable pub store_refusal : Hmac → List ℕ → ℕ
 store_refusal k out = cond (legal k) (cond (leb (2 * form_bytes (family_of (width k))) (length out)) 0 6) 5
+
+pub record Stored : Type 0 where
+  pub hmac : Hmac
+  pub refusal : ℕ
+
+-- The answer of `store`, with the keyed hash.
+abbrev pub stored_by : {A : Type 0} → Hmac → Result A Refusal → Stored
+stored_by k answer = record { hmac = k; refusal = number_of answer }
 
 unfoldable pub store_answer : Hmac → List ℕ → Stored
 store_answer k out = record { hmac = k; refusal = store_refusal k out }

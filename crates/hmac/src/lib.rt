@@ -1,13 +1,14 @@
-// The keyed hash, HMAC of FIPS 198-1: opened with a key, fed pieces of any number of bits, taken, checked, stored and restored. Each method hands it
-// back with its answer; refusals are as for the open hash. It is as secret as its key.
+// The keyed hash, HMAC of FIPS 198-1: opened with a key, fed pieces of any number of bits, taken, checked, stored and restored. Refusals are as for the
+// open hash. It is as secret as its key.
 #![tactic(auto)]
 
 ghost use Rattle.std.specs.Prelude.{◌≡◌};
 ghost use Rattle.hash.specs.Open.{written};
-ghost use Rattle.hmac.specs.Keyed.{no_hmac, open_answer, feed_answer, tag_of, take_refusal, take_answer, check_answer};
-ghost use Rattle.hmac.specs.Form.{keyed_form, store_refusal, store_answer, restore_answer};
+ghost use Rattle.hmac.specs.Keyed.{opened_as, opened_by, open_answer, fed_by, feed_answer, tag_of, take_refusal, taken_by, take_answer, checked_by, check_answer};
+ghost use Rattle.hmac.specs.Form.{keyed_form, store_refusal, stored_by, store_answer, restore_answer};
 
 use hash::Hash;
+use refusals::Refusal;
 
 // `inner` was fed K0 xor ipad and then the pieces, `outer` K0 xor opad alone.
 #[derive(Clone, Copy)]
@@ -16,179 +17,175 @@ pub struct Hmac {
     pub outer: Hash,
 }
 
+// An answer and the keyed hash after it. Refused, that is as it was handed over, or all zeros where none was (open, restore).
 #[derive(Clone, Copy)]
 pub struct Opened {
     pub hmac: Hmac,
-    pub refusal: u8,
+    pub result: Result<(), Refusal>,
 }
 
-// `blocks` is the number of blocks compressed.
+// The number of blocks compressed.
 #[derive(Clone, Copy)]
 pub struct Fed {
     pub hmac: Hmac,
-    pub blocks: usize,
-    pub refusal: u8,
+    pub result: Result<usize, Refusal>,
 }
 
 #[derive(Clone, Copy)]
 pub struct Taken {
     pub hmac: Hmac,
-    pub blocks: usize,
-    pub refusal: u8,
+    pub result: Result<usize, Refusal>,
 }
 
-// `right` is whether the bytes given were the tag.
+// Whether the bytes given were the tag.
 #[derive(Clone, Copy)]
 pub struct Checked {
     pub hmac: Hmac,
-    pub right: bool,
-    pub refusal: u8,
+    pub result: Result<bool, Refusal>,
 }
 
 #[derive(Clone, Copy)]
 pub struct Stored {
     pub hmac: Hmac,
-    pub refusal: u8,
+    pub result: Result<(), Refusal>,
 }
 
-// The answer of a refused open or restore.
-fn none(refusal: u8) -> Opened
-    ensures { result ≡ record { hmac = no_hmac; refusal = refusal } }
+fn handed_over(answer: Result<Hmac, Refusal>) -> Opened
+    ensures { opened_as result.hmac result.result ≡ opened_by answer }
 {
-    let inner = hash::zero_hash();
-    let outer = hash::zero_hash();
-    let hmac = Hmac { inner, outer };
-    Opened { hmac, refusal }
+    match answer {
+        Ok(hmac) => Opened {
+            hmac,
+            result: Ok(()),
+        },
+        Err(refusal) => {
+            let none = hash::zero_hash();
+            let hmac = Hmac {
+                inner: none,
+                outer: none,
+            };
+            Opened {
+                hmac,
+                result: Err(refusal),
+            }
+        }
+    }
 }
 
 impl Hmac {
     // Opens a keyed hash at a width. Refusals 1, 4.
     pub fn open(width: u16, key: &[u8]) -> Opened
-        ensures { result ≡ open_answer width key.now }
+        ensures { opened_as result.hmac result.result ≡ open_answer width key.now }
     {
-        let refusal = hmac_key::key_refusal(width, key.len());
-        if refusal != 0 {
-            return none(refusal);
-        }
-        let size = tail::block_bytes(width);
-        let block = hmac_key::key_block(width, key);
-        let inner_block = hmac_key::mask(block, hmac_key::INNER_PAD);
-        let outer_block = hmac_key::mask(block, hmac_key::OUTER_PAD);
-        let inner = hmac_parts::begin(width, &inner_block[0..size]);
-        let outer = hmac_parts::begin(width, &outer_block[0..size]);
-        let hmac = Hmac { inner, outer };
-        Opened { hmac, refusal: 0 }
+        handed_over(Hmac::at(width, key))
     }
 
     // Feeds the first `count` bits of a piece; what stands past them is ignored. Refusals 5, 2, 4.
     pub fn feed(mut self, piece: &[u8], count: usize) -> Fed
-        ensures { result ≡ feed_answer self piece.now count }
+        ensures { fed_by result.hmac result.result ≡ feed_answer self piece.now count }
     {
-        let inner = self.inner;
-        let outer = self.outer;
-        if !hmac_parts::is_keyed(inner, outer) {
-            return Fed {
-                hmac: self,
-                blocks: 0,
-                refusal: 5,
-            };
-        }
-        let fed = inner.feed(piece, count);
-        let next = fed.hash;
-        self = Hmac { inner: next, outer };
-        Fed {
-            hmac: self,
-            blocks: fed.blocks,
-            refusal: fed.refusal,
-        }
+        let result = self.absorb(piece, count);
+        Fed { hmac: self, result }
     }
 
     // Writes the tag of all bits fed so far; it stays open. Refusals 5, 6.
     pub fn take(self, out: &mut [u8]) -> Taken
-        ensures { (result ≡ take_answer self out.old)
+        ensures { (taken_by result.hmac result.result ≡ take_answer self out.old)
             × (out.new ≡ written (take_refusal self out.old) (tag_of self) out.old) }
     {
-        let inner = self.inner;
-        let outer = self.outer;
-        let refusal = hmac_parts::tag_refusal(inner, outer, out.len());
-        // With one way out the hashes are copied once, and by no memmove, which the library does not ask of its caller.
-        let mut blocks = 0;
-        if refusal == 0 {
-            blocks = hmac_parts::finish(inner, outer, out);
-        }
-        Taken {
-            hmac: self,
-            blocks,
-            refusal,
-        }
+        let result = self.write_tag(out);
+        Taken { hmac: self, result }
     }
 
     // Whether the bytes given are the tag of all bits fed so far; it stays open. Refusal 5.
     pub fn check(self, given: &[u8]) -> Checked
-        ensures { result ≡ check_answer self given.now }
+        ensures { checked_by result.hmac result.result ≡ check_answer self given.now }
     {
-        let inner = self.inner;
-        let outer = self.outer;
-        if !hmac_parts::is_keyed(inner, outer) {
-            return Checked {
-                hmac: self,
-                right: false,
-                refusal: 5,
-            };
-        }
-        let right = hmac_parts::is_tag(inner, outer, given);
-        Checked {
-            hmac: self,
-            right,
-            refusal: 0,
-        }
+        let result = self.verify(given);
+        Checked { hmac: self, result }
     }
 
     // Writes the stored form: 276 or 532 bytes. Refusals 5, 6.
     pub fn store(self, out: &mut [u8]) -> Stored
-        ensures { (result ≡ store_answer self out.old)
+        ensures { (stored_by result.hmac result.result ≡ store_answer self out.old)
             × (out.new ≡ written (store_refusal self out.old) (keyed_form self) out.old) }
     {
-        let inner = self.inner;
-        let outer = self.outer;
-        let half = hash_parts::form_bytes(inner.width);
-        let refusal = hmac_parts::output_refusal(inner, outer, 2 * half, out.len());
-        if refusal != 0 {
-            return Stored {
-                hmac: self,
-                refusal,
-            };
-        }
-        inner.store(out);
-        let end = out.len();
-        outer.store(&mut out[half..end]);
-        Stored {
-            hmac: self,
-            refusal: 0,
-        }
+        let result = self.write_form(out);
+        Stored { hmac: self, result }
     }
 
     // The keyed hash of a stored form, whose halves may be of the old size. Refusals 8, 1, 8, 9 of the front half, then of the back half, then 5.
     pub fn restore(form: &[u8]) -> Opened
-        ensures { result ≡ restore_answer form.now }
+        ensures { opened_as result.hmac result.result ≡ restore_answer form.now }
     {
-        let half = form.len() / 2;
-        let front = Hash::restore(&form[0..half]);
-        let refused = front.refusal;
-        if refused != 0 {
-            return none(refused);
+        handed_over(Hmac::of_form(form))
+    }
+
+    // What `open` answers, and no keyed hash where it is refused.
+    pub fn at(width: u16, key: &[u8]) -> Result<Hmac, Refusal>
+        ensures { opened_by result ≡ open_answer width key.now }
+    {
+        hmac_key::key_refusal(width, key.len())?;
+        let size = tail::block_bytes(width);
+        let block = hmac_key::key_block(width, key);
+        let inner_block = hmac_key::mask(block, hmac_key::INNER_PAD);
+        let outer_block = hmac_key::mask(block, hmac_key::OUTER_PAD);
+        let inner = hmac_parts::begin(width, &inner_block[..size]);
+        let outer = hmac_parts::begin(width, &outer_block[..size]);
+        Ok(Hmac { inner, outer })
+    }
+
+    // What `feed` does, in place. Answers the number of blocks compressed.
+    pub fn absorb(&mut self, piece: &[u8], count: usize) -> Result<usize, Refusal>
+        ensures { fed_by self.new result ≡ feed_answer self.old piece.now count }
+    {
+        if !hmac_parts::is_keyed(&self.inner, &self.outer) {
+            return Err(Refusal::Hash);
         }
-        let back = Hash::restore(&form[half..form.len()]);
-        let refusal = back.refusal;
-        if refusal != 0 {
-            return none(refusal);
+        self.inner.absorb(piece, count)
+    }
+
+    // What `take` does. Answers the number of blocks compressed.
+    pub fn write_tag(&self, out: &mut [u8]) -> Result<usize, Refusal>
+        ensures { (taken_by self.now result ≡ take_answer self.now out.old)
+            × (out.new ≡ written (take_refusal self.now out.old) (tag_of self.now) out.old) }
+    {
+        hmac_parts::tag_refusal(&self.inner, &self.outer, out.len())?;
+        Ok(hmac_parts::finish(self.inner, self.outer, out))
+    }
+
+    // What `check` answers.
+    pub fn verify(&self, given: &[u8]) -> Result<bool, Refusal>
+        ensures { checked_by self.now result ≡ check_answer self.now given.now }
+    {
+        if !hmac_parts::is_keyed(&self.inner, &self.outer) {
+            return Err(Refusal::Hash);
         }
-        let inner = front.hash;
-        let outer = back.hash;
-        if !hmac_parts::is_keyed(inner, outer) {
-            return none(5);
+        let right = hmac_parts::is_tag(self.inner, self.outer, given);
+        Ok(right)
+    }
+
+    // What `store` does. By value, of which the lengths of the arrays are known to the prover, and behind a reference not.
+    pub fn write_form(self, out: &mut [u8]) -> Result<(), Refusal>
+        ensures { (stored_by self result ≡ store_answer self out.old)
+            × (out.new ≡ written (store_refusal self out.old) (keyed_form self) out.old) }
+    {
+        let half = hash_parts::form_bytes(self.inner.width);
+        hmac_parts::output_refusal(&self.inner, &self.outer, 2 * half, out.len())?;
+        self.inner.write_form(out)?;
+        self.outer.write_form(&mut out[half..])
+    }
+
+    // What `restore` answers, and no keyed hash where it is refused.
+    pub fn of_form(form: &[u8]) -> Result<Hmac, Refusal>
+        ensures { opened_by result ≡ restore_answer form.now }
+    {
+        let (front, back) = form.split_at(form.len() / 2);
+        let inner = Hash::of_form(front)?;
+        let outer = Hash::of_form(back)?;
+        if !hmac_parts::is_keyed(&inner, &outer) {
+            return Err(Refusal::Hash);
         }
-        let hmac = Hmac { inner, outer };
-        Opened { hmac, refusal: 0 }
+        Ok(Hmac { inner, outer })
     }
 }

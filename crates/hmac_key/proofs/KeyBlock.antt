@@ -71,7 +71,7 @@ digest_within : (width : ℕ) → is_width width ≡ true → digest_bytes width
 digest_within = at_widths (λ (w : ℕ). digest_bytes w ≤ block_bytes (family_of w)) (lit≤ tt) (lit≤ tt) (lit≤ tt) (lit≤ tt)
 
 module _ (width : ℕ) (known : is_width width ≡ true) (key : List ℕ) (short : 8 * length key ≤ limit) where
-  accepted : digest_refusal width key (8 * length key) 128 ≡ 0
+  pub accepted : digest_refusal width key (8 * length key) 128 ≡ 0
   unfolding digest_refusal first
   accepted =
       let room : digest_bytes width ≤ 128 = omega (arith, digest_within width known, bytes_within (family_of width)) in
@@ -94,7 +94,7 @@ module _ (width : ℕ) (known : is_width width ≡ true) (key : List ℕ) (short
 
 -- The front of 128 bytes, a block long, masked.
 pub masked_front : (width : ℕ) (key : List ℕ) (pad size : ℕ) → size ≡ block_bytes (family_of width)
-    → take (size - 0) (masked pad (padded 128 (key_block width key))) ≡ masked pad (key_block width key)
+    → take size (masked pad (padded 128 (key_block width key))) ≡ masked pad (key_block width key)
 unfolding masked
 masked_front width key pad size e =
     let k = key_block width key in
@@ -103,11 +103,11 @@ masked_front width key pad size e =
     let small = bytes_within (family_of width) in
     let wide = masked pad (padded 128 k) in
     let wide_length : length wide ≡ 128 = length_table (length (padded 128 k)) _ ∙ long in
-    ext_get_or 0 (take (size - 0) wide) (masked pad k)
-    (omega (arith, length-take (size - 0) wide, wide_length, e, small, length_table (length k) (λ j. bit_xor (get_or k j 0) pad), n))
+    ext_get_or 0 (take size wide) (masked pad k)
+    (omega (arith, length-take size wide, wide_length, e, small, length_table (length k) (λ j. bit_xor (get_or k j 0) pad), n))
     (λ i below.
-    let low : i < size = omega (arith, below, length-take (size - 0) wide) in
-    get_or-take (size - 0) wide i 0 (omega arith)
+    let low : i < size = omega (arith, below, length-take size wide) in
+    get_or-take size wide i 0 (omega arith)
     ∙ get_d_table (length (padded 128 k)) _ i 0 (omega (arith, long, low, e, small))
     ∙ ap (λ (x : ℕ). bit_xor x pad) (get_d_padded 128 k i (omega (arith, n, e, small)))
     ∙ sym (get_d_table (length k) (λ j. bit_xor (get_or k j 0) pad) i 0 (omega (arith, n, low))))

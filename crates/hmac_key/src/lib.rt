@@ -4,26 +4,29 @@
 ghost use Rattle.std.specs.Prelude.{true, ◌≡◌, ◌*◌, ◌≤◌, length};
 ghost use Rattle.simd.specs.Basic.{is_width};
 ghost use Rattle.bits.specs.Zero.{padded};
+ghost use Rattle.refusals.specs.Numbers.{number_of};
 ghost use Rattle.hash.specs.Open.{limit};
 ghost use Rattle.hmac_key.specs.Hmac.{key_block, masked};
 ghost use Rattle.hmac_key.specs.Refusal.{key_refusal};
+
+use refusals::Refusal;
 
 // The bytes that are repeated in the inner and in the outer pad.
 pub const INNER_PAD: u8 = 0x36;
 
 pub const OUTER_PAD: u8 = 0x5c;
 
-// Why a width and a key of so many bytes open no keyed hash, or 0.
-pub fn key_refusal(width: u16, bytes: usize) -> u8
-    ensures { result ≡ key_refusal width bytes }
+// Whether a width and a key of so many bytes open a keyed hash. Refusals 1, 4.
+pub fn key_refusal(width: u16, bytes: usize) -> Result<(), Refusal>
+    ensures { number_of result ≡ key_refusal width bytes }
 {
     if !expansion::is_width(width) {
-        return 1;
+        return Err(Refusal::Width);
     }
     if hash::LIMIT / 8 < bytes as u64 {
-        return 4;
+        return Err(Refusal::Total);
     }
-    0
+    Ok(())
 }
 
 // K0, in the first of 128 bytes.
@@ -35,7 +38,7 @@ pub fn key_block(width: u16, key: &[u8]) -> [u8; 128]
     if key.len() <= tail::block_bytes(width) {
         blocks::fill(key, 0, &mut block);
     } else {
-        digest::digest(width, key, 8 * key.len(), &mut block);
+        digest::digest(width, key, 8 * key.len(), &mut block).unwrap();
     }
     block
 }
@@ -44,11 +47,9 @@ pub fn key_block(width: u16, key: &[u8]) -> [u8; 128]
 pub fn mask(block: [u8; 128], pad: u8) -> [u8; 128]
     ensures { result ≡ masked pad block }
 {
-    let mut out = [0u8; 128];
-    let mut i = 0;
-    while i < 128 {
-        out[i] = block[i] ^ pad;
-        i += 1;
+    let mut out = block;
+    for byte in out.iter_mut() {
+        *byte ^= pad;
     }
     out
 }

@@ -2,7 +2,7 @@
 -- is fed and two blocks when it is taken.
 use mathlib.Core.Bool.{true}
 use mathlib.Core.List.{List}
-use mathlib.Core.Path.{◌≡◌, ap, ◌∙◌}
+use mathlib.Core.Path.{◌≡◌, sym, ap, ◌∙◌}
 use Prim.Native.Nat.{ℕ, ◌+◌, ◌*◌, ◌-◌, ◌/◌, ◌%◌, ◌<◌, ◌≤◌}
 use native.Mathlib.Omega.{arith}
 use borrow.Author.Tests.{ne_eqb}
@@ -13,10 +13,8 @@ use Rattle.simd.specs.Basic.{Family, small, large, family_of, is_width, block_bi
 use Rattle.simd.specs.Message.{bits_of, message_blocks}
 use Rattle.simd.specs.Hash.{compressions}
 use Rattle.laws.proofs.Bits.{bits_bits_of, length_bits_of}
-use Rattle.hash.specs.Open.{limit, family, used, legal, advanced, holding, full_blocks, feed_answer, digest_of, take_refusal, take_answer, written}
+use Rattle.hash.specs.Open.{Fed, Taken, limit, family, used, legal, advanced, holding, full_blocks, feed_answer, digest_of, take_refusal, take_answer, written}
 use Rattle.hash.specs.declared.Hash.{Hash}
-use Rattle.hash.specs.declared.Fed.{Fed}
-use Rattle.hash.specs.declared.Taken.{Taken}
 use Rattle.hash.proofs.Holding.{legal_width}
 use Rattle.hash.proofs.Feeding.{at_widths, fed_whole}
 use Rattle.hash.proofs.Digests.{digest_length}
@@ -79,13 +77,15 @@ module _ (inner outer : Hash) (k : IsKeyed inner outer) where
   -- The inner hash is taken into 64 bytes.
   pub digest_written : {t : Taken} {left : List ℕ} → t ≡ take_answer inner (replicate 64 0)
       → left ≡ written (take_refusal inner (replicate 64 0)) (digest_of inner) (replicate 64 0) → (l : ℕ) → l ≡ digest_bytes w
-      → (t.blocks ≡ compressions (family inner) (used inner)) × (take (l - 0) left ≡ digest_of inner)
+      → (t.refusal ≡ 0) × (t.blocks ≡ compressions (family inner) (used inner)) × (take l left ≡ digest_of inner)
   digest_written {t} {left} answered wrote l size =
       let room = (short w known).room in
-      let none = take_accepted inner (replicate 64 0) k.inner_legal room in (
-        ap (λ (t : Taken). t.blocks) (answered ∙ take_whole inner (replicate 64 0) k.inner_legal room),
-        ap (take (l - 0)) (wrote ∙ written_accepted _ (digest_of inner) (replicate 64 0) none)
-            ∙ take_at (digest_of inner) _ (l - 0) (inner_size ∙ omega (arith, size)),
+      let none = take_accepted inner (replicate 64 0) k.inner_legal room in
+      let all = answered ∙ take_whole inner (replicate 64 0) k.inner_legal room in (
+        ap (λ (t : Taken). t.refusal) all,
+        ap (λ (t : Taken). t.blocks) all,
+        ap (take l) (wrote ∙ written_accepted _ (digest_of inner) (replicate 64 0) none)
+            ∙ take_at (digest_of inner) _ l (inner_size ∙ sym size),
       )
 
   -- The outer hash is fed the digest.
@@ -123,18 +123,20 @@ module _ (inner outer : Hash) (k : IsKeyed inner outer) where
     tag_size = digest_length (advanced outer m) last_legal ∙ ap digest_bytes last_width
 
     pub tag_written : {t : Taken} {h : Hash} (out : List ℕ) {left : List ℕ} → h ≡ advanced outer m → digest_bytes w ≤ length out → t ≡ take_answer h out
-        → left ≡ written (take_refusal h out) (digest_of h) out → (t.blocks ≡ 2) × (left ≡ written 0 (tag_from inner outer) out)
+        → left ≡ written (take_refusal h out) (digest_of h) out
+        → (t.refusal ≡ 0) × (t.blocks ≡ 2) × (left ≡ written 0 (tag_from inner outer) out)
     unfolding tag_from
     tag_written {t} {h} out {left} same room answered wrote =
         let enough : digest_bytes (advanced outer m).width ≤ length out = rw last_width room in
-        let two = ne_eqb (used (advanced outer m)) 0 (λ e. omega (arith, e, last_used, (short w known).some)) in (
-          ap (λ (t : Taken). t.blocks) (answered ∙ ap (λ (h : Hash). take_answer h out) same ∙ take_blocks (advanced outer m) out last_legal enough)
-              ∙ rw two,
+        let two = ne_eqb (used (advanced outer m)) 0 (λ e. omega (arith, e, last_used, (short w known).some)) in
+        let all = answered ∙ ap (λ (h : Hash). take_answer h out) same ∙ take_blocks (advanced outer m) out last_legal enough in (
+          ap (λ (t : Taken). t.refusal) all,
+          ap (λ (t : Taken). t.blocks) all ∙ rw two,
           wrote ∙ (λ i. written (take_refusal (same i) out) (digest_of (same i)) out)
               ∙ ap (λ (r : ℕ). written r (digest_of (advanced outer m)) out) (take_accepted (advanced outer m) out last_legal enough),
         )
 
     pub tag_front : {left : List ℕ} (l : ℕ) → l ≡ digest_bytes w → left ≡ written 0 (tag_from inner outer) (replicate 64 0)
-        → take (l - 0) left ≡ tag_from inner outer
+        → take l left ≡ tag_from inner outer
     unfolding written
-    tag_front {left} l size wrote = ap (take (l - 0)) wrote ∙ take_at (tag_from inner outer) _ (l - 0) (tag_size ∙ omega (arith, size))
+    tag_front {left} l size wrote = ap (take l) wrote ∙ take_at (tag_from inner outer) _ l (tag_size ∙ sym size)

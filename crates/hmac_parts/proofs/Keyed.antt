@@ -1,21 +1,21 @@
 -- What holds of the two hashes of a keyed one, and of a hash that was fed a block.
 use mathlib.Core.Bool.{true, false}
 use mathlib.Core.List.{List}
-use mathlib.Core.Path.{◌≡◌, ap, ◌∙◌}
+use mathlib.Core.Path.{◌≡◌, refl, ap, ◌∙◌}
 use Prim.Native.Nat.{ℕ, ◌*◌, ◌<◌, ◌≤◌}
 use native.Mathlib.Omega.{arith}
 use borrow.Author.Tests.{eqb-true, eq-eqb, leb-true, le-leb, lt-leb}
 use lib.Dec.{eqb, leb}
 use lib.ListN.{length}
+use Rattle.std.specs.Prelude.{Result, Ok, Err, IsOk}
 use Rattle.simd.specs.Basic.{is_width, block_bits}
 use Rattle.bits.proofs.Zeros.{and_left, and_right}
-use Rattle.hash.specs.Open.{family, legal, holding, open_answer, feed_answer, advanced}
+use Rattle.refusals.specs.declared.Refusal.{Refusal}
+use Rattle.hash.specs.Open.{Opened, Fed, Taken, family, legal, holding, open_answer, opened_by, feed_answer, fed_by, taken_by, advanced}
 use Rattle.hash.specs.declared.Hash.{Hash}
-use Rattle.hash.specs.declared.Opened.{Opened}
-use Rattle.hash.specs.declared.Fed.{Fed}
 use Rattle.hash.proofs.Feeding.{fed_whole}
 use Rattle.hash_theorems.proofs.Theorems.{open_known, first_legal}
-use Rattle.hmac_key.proofs.Bytes.{whole_bytes, message_bytes}
+use Rattle.hmac_key.proofs.Bytes.{whole_bytes, message_bytes, not_0}
 use Rattle.hmac_parts.specs.Keyed.{begun, keyed}
 
 pub record IsKeyed (inner outer : Hash) : Type 0 where
@@ -78,9 +78,26 @@ module _ (inner outer : Hash) where
         length_decides block e enough =
             rw (one, two, eq-eqb outer.width inner.width same, le-leb (block_bits (family inner)) inner.bits enough, e)
 
+-- An answer with the refusal 0 is Ok, and the hash after a feed stands in it either way.
+pub opened_ok : (r : Result Hash Refusal) → (opened_by r).refusal ≡ 0 → IsOk r
+opened_ok (Ok h) none = refl
+opened_ok (Err r) none = absurd (not_0 r none)
+
+pub fed_ok : (h : Hash) (r : Result ℕ Refusal) → (fed_by h r).refusal ≡ 0 → IsOk r
+fed_ok h (Ok n) none = refl
+fed_ok h (Err r) none = absurd (not_0 r none)
+
+pub taken_ok : (h : Hash) (r : Result ℕ Refusal) → (taken_by h r).refusal ≡ 0 → IsOk r
+taken_ok h (Ok n) none = refl
+taken_ok h (Err r) none = absurd (not_0 r none)
+
+pub fed_hash : (h : Hash) (r : Result ℕ Refusal) → h ≡ (fed_by h r).hash
+fed_hash h (Ok n) = refl
+fed_hash h (Err r) = refl
+
 -- A feed of whole bytes to the hash of a known width.
 pub fed_block : (width : ℕ) → is_width width ≡ true → (block : List ℕ) → length block ≤ 128 → {o : Opened} {f : Fed} → o ≡ open_answer width
-    → f ≡ feed_answer o.hash block (8 * length block) → f.hash ≡ begun width block
+    → f ≡ feed_answer o.hash block (8 * length block) → (f.hash ≡ begun width block) × (f.refusal ≡ 0)
 unfolding begun holding
 fed_block width known block small {o} {f} opening feeding =
     let h = (open_answer width).hash in
@@ -88,5 +105,7 @@ fed_block width known block small {o} {f} opening feeding =
     let good : legal h ≡ true = rw known_hash (first_legal width known) in
     let none : h.bits ≡ 0 = ap (λ (o : Opened). o.hash.bits) known_hash in
     let fed = fed_whole h block (8 * length block) good (whole_bytes block) (omega (arith, none, small)) in
-    ap (λ (f : Fed). f.hash) (feeding ∙ ap (λ (o : Opened). feed_answer o.hash block (8 * length block)) opening ∙ fed)
-    ∙ ap (λ (m : List ℕ). advanced h m) (message_bytes block)
+    let all = feeding ∙ ap (λ (o : Opened). feed_answer o.hash block (8 * length block)) opening ∙ fed in (
+      ap (λ (f : Fed). f.hash) all ∙ ap (λ (m : List ℕ). advanced h m) (message_bytes block),
+      ap (λ (f : Fed). f.refusal) all,
+    )

@@ -14,11 +14,8 @@ use Rattle.hash.proofs.Feeding.{bits_message}
 use Rattle.hash.proofs.Refusing.{passed, first_refused, first_accepted, written_refused}
 use Rattle.hmac_key.specs.Hmac.{tag}
 use Rattle.hmac_key.specs.Refusal.{key_refusal}
-use Rattle.hmac.specs.Keyed.{opening, open_answer, feed_refusal, fed, feed_answer, tag_of, take_refusal, taken, take_answer}
+use Rattle.hmac.specs.Keyed.{Opened, Fed, Taken, opening, open_answer, feed_refusal, fed, feed_answer, tag_of, take_refusal, taken, take_answer}
 use Rattle.hmac.specs.declared.Hmac.{Hmac}
-use Rattle.hmac.specs.declared.Opened.{Opened}
-use Rattle.hmac.specs.declared.Fed.{Fed}
-use Rattle.hmac.specs.declared.Taken.{Taken}
 use Rattle.hmac_theorems.proofs.Forms.{opened_refusal}
 use Rattle.hmac_theorems.proofs.Ignored.{fed_refusal}
 use Rattle.hmac_theorems.proofs.Tags.{further, open_known, start_bits, start_legal, after_keyed, after_tag, after_width}

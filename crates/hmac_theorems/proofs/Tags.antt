@@ -13,9 +13,8 @@ use Rattle.simd.specs.Message.{bits_of, message, message_blocks}
 use Rattle.simd.specs.Hash.{digest, compressions}
 use Rattle.laws.proofs.Table.{length_table}
 use Rattle.laws.proofs.Bits.{Bits, bits_bits_of, bits_append, length_bits_of}
-use Rattle.hash.specs.Open.{limit, family, used, pending, holding, advanced, full_blocks, digest_of, written, piece_refusal}
+use Rattle.hash.specs.Open.{Opened as HashOpened, limit, family, used, pending, holding, advanced, full_blocks, digest_of, written, piece_refusal}
 use Rattle.hash.specs.declared.Hash.{Hash}
-use Rattle.hash.specs.declared.Opened.{Opened as HashOpened}
 use Rattle.hash.proofs.Holding.{Sized}
 use Rattle.hash.proofs.Feeding.{Whole}
 use Rattle.hash.proofs.Digests.{length_digest}
@@ -32,10 +31,8 @@ use Rattle.hmac_key.specs.Refusal.{key_refusal}
 use Rattle.hmac_key.proofs.KeyBlock.{key_block_length}
 use Rattle.hmac_parts.specs.Keyed.{begun, keyed, tag_from}
 use Rattle.hmac_parts.proofs.Keyed.{IsKeyed, keyed_facts, keyed_of}
-use Rattle.hmac.specs.Keyed.{legal, width, opened, opening, open_answer, feed_refusal, fed, feed_answer, tag_of, take_refusal, taken, take_answer, check_answer}
+use Rattle.hmac.specs.Keyed.{Opened, Checked, legal, width, opened, opening, open_answer, feed_refusal, fed, feed_answer, tag_of, take_refusal, taken, take_answer, check_answer}
 use Rattle.hmac.specs.declared.Hmac.{Hmac}
-use Rattle.hmac.specs.declared.Opened.{Opened}
-use Rattle.hmac.specs.declared.Checked.{Checked}
 
 -- A keyed hash fed a piece, and all pieces of a cutting.
 unfoldable pub feed_piece : Hmac → Piece → Answer Hmac

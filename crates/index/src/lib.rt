@@ -7,9 +7,12 @@ ghost use Rattle.simd.specs.Basic.{family_of, is_width, block_bytes, block_bits,
 ghost use Rattle.simd.specs.Message.{message as messageOf};
 ghost use Rattle.simd.specs.Hash.{digest, compressions};
 ghost use Rattle.bits.specs.Zero.{padded};
+ghost use Rattle.refusals.specs.Numbers.{number_of};
 ghost use Rattle.hash.specs.Open.{written, stored};
 ghost use Rattle.checkpoints.specs.Index.{kept, states_from, final_from, index_of, corrected_index, corrected_digest, corrected_compressions};
 ghost use Rattle.checkpoints.specs.Calls.{index_refusal, reindex_refusal};
+
+use refusals::Refusal;
 
 // Runs a message from its kept state i on: writes the states kept from there on and the digest, and gives the number of compressions.
 fn finish(
@@ -39,31 +42,20 @@ fn finish(
     kept_counts::compressed(width, count, i)
 }
 
-// Writes the index and the digest of the first `count` bits of a message, and how many blocks were compressed. Answers the refusal's number, or 0.
-// Refusals 1, 2, 4, 6.
-pub fn index(
+// The fresh run of a call that is not refused.
+fn fresh(
     width: u16,
     message: &[u8],
     count: usize,
     index: &mut [u8],
     out: &mut [u8],
     blocks: &mut u64,
-) -> u8
-    ensures value { result ≡ index_refusal width message.now count (length index.old) (length out.old) }
-    ensures index_after { index.new
-        ≡ written (index_refusal width message.now count (length index.old) (length out.old))
-        (index_of width (messageOf message.now count)) index.old }
-    ensures out_after { out.new
-        ≡ written (index_refusal width message.now count (length index.old) (length out.old))
-        (digest width (messageOf message.now count)) out.old }
-    ensures blocks_after { blocks.new
-        ≡ stored (index_refusal width message.now count (length index.old) (length out.old))
-        (compressions (family_of width) count) blocks.old }
+)
+    requires { index_refusal width message.now count (length index.old) (length out.old) ≡ 0 }
+    ensures index_after { index.new ≡ written 0 (index_of width (messageOf message.now count)) index.old }
+    ensures out_after { out.new ≡ written 0 (digest width (messageOf message.now count)) out.old }
+    ensures blocks_after { blocks.new ≡ compressions (family_of width) count }
 {
-    let refused = index_parts::index_refusal(width, message, count, index.len(), out.len());
-    if refused != 0 {
-        return refused;
-    }
     let state = hash_parts::start_state(width);
     let end = index_parts::index_bytes(width, count);
     form::write_head(width, count as u64, &mut index[0..form::HEAD_BYTES]);
@@ -76,7 +68,74 @@ pub fn index(
         &mut index[form::HEAD_BYTES..end],
         out,
     );
-    0
+}
+
+// Writes the index and the digest of the first `count` bits of a message, and how many blocks were compressed. Refusals 1, 2, 4, 6.
+pub fn index(
+    width: u16,
+    message: &[u8],
+    count: usize,
+    index: &mut [u8],
+    out: &mut [u8],
+    blocks: &mut u64,
+) -> Result<(), Refusal>
+    ensures value { number_of result ≡ index_refusal width message.now count (length index.old) (length out.old) }
+    ensures index_after { index.new
+        ≡ written (index_refusal width message.now count (length index.old) (length out.old))
+        (index_of width (messageOf message.now count)) index.old }
+    ensures out_after { out.new
+        ≡ written (index_refusal width message.now count (length index.old) (length out.old))
+        (digest width (messageOf message.now count)) out.old }
+    ensures blocks_after { blocks.new
+        ≡ stored (index_refusal width message.now count (length index.old) (length out.old))
+        (compressions (family_of width) count) blocks.old }
+{
+    index_parts::index_refusal(width, message, count, index.len(), out.len())?;
+    fresh(width, message, count, index, out, blocks);
+    Ok(())
+}
+
+// Writes the first bytes of a source, as many as the buffer takes. Byte by byte: between two buffers of a caller `copy_from_slice` becomes memmove,
+// and the library asks for memcpy and memset alone.
+fn write_bytes(out: &mut [u8], src: &[u8])
+    requires { length out.old ≤ length src.now }
+    ensures { out.new ≡ take (length out.old) src.now }
+{
+    for i in 0..out.len() {
+        out[i] = src[i];
+    }
+}
+
+// The run of a correction that is not refused.
+fn corrected(
+    width: u16,
+    message: &[u8],
+    count: usize,
+    old: &[u8],
+    block: u64,
+    index: &mut [u8],
+    out: &mut [u8],
+    blocks: &mut u64,
+)
+    requires { reindex_refusal width message.now count old.now block (length index.old) (length out.old) ≡ 0 }
+    ensures index_after { index.new ≡ written 0 (corrected_index width old.now (messageOf message.now count) block) index.old }
+    ensures out_after { out.new ≡ written 0 (corrected_digest width old.now (messageOf message.now count) block) out.old }
+    ensures blocks_after { blocks.new ≡ corrected_compressions (family_of width) count block }
+{
+    let i = index_parts::starts_at(width, count, block);
+    let state = index_parts::start_state(width, count, old, block);
+    let middle = form::HEAD_BYTES + tail::block_bytes(width) * i;
+    let end = index_parts::index_bytes(width, count);
+    write_bytes(&mut index[0..middle], old);
+    *blocks = finish(
+        width,
+        state,
+        message,
+        count,
+        i,
+        &mut index[middle..end],
+        out,
+    );
 }
 
 // The same for a corrected message of the same length, from an old index and the number of the first corrected block, counted from 0: the message
@@ -90,8 +149,8 @@ pub fn reindex(
     index: &mut [u8],
     out: &mut [u8],
     blocks: &mut u64,
-) -> u8
-    ensures value { result
+) -> Result<(), Refusal>
+    ensures value { number_of result
         ≡ reindex_refusal width message.now count old.now block (length index.old) (length out.old) }
     ensures index_after { index.new
         ≡ written
@@ -106,31 +165,7 @@ pub fn reindex(
         (reindex_refusal width message.now count old.now block (length index.old) (length out.old))
         (corrected_compressions (family_of width) count block) blocks.old }
 {
-    let refused = index_parts::reindex_refusal(
-        width,
-        message,
-        count,
-        old,
-        block,
-        index.len(),
-        out.len(),
-    );
-    if refused != 0 {
-        return refused;
-    }
-    let i = index_parts::starts_at(width, count, block);
-    let state = index_parts::start_state(width, count, old, block);
-    let middle = form::HEAD_BYTES + tail::block_bytes(width) * i;
-    let end = index_parts::index_bytes(width, count);
-    form::write_bytes(&mut index[0..middle], old);
-    *blocks = finish(
-        width,
-        state,
-        message,
-        count,
-        i,
-        &mut index[middle..end],
-        out,
-    );
-    0
+    index_parts::reindex_refusal(width, message, count, old, block, index.len(), out.len())?;
+    corrected(width, message, count, old, block, index, out, blocks);
+    Ok(())
 }

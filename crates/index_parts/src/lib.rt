@@ -4,8 +4,11 @@
 ghost use Rattle.std.specs.Prelude.{true, ◌≡◌};
 ghost use Rattle.simd.specs.Basic.{family_of};
 ghost use Rattle.bits.specs.Zero.{padded};
+ghost use Rattle.refusals.specs.Numbers.{number_of};
 ghost use Rattle.checkpoints.specs.Index.{index_bytes, starts_at, start_state};
 ghost use Rattle.checkpoints.specs.Calls.{message_refusal, room_refusal, index_refusal, fits as fitsIndex, fit_refusal, reindex_refusal};
+
+use refusals::Refusal;
 
 // The bytes of an index of so many bits.
 pub fn index_bytes(width: u16, count: usize) -> usize
@@ -14,38 +17,41 @@ pub fn index_bytes(width: u16, count: usize) -> usize
     form::HEAD_BYTES + tail::block_bytes(width) * kept_counts::kept(width, count)
 }
 
-// The number of a message's refusal at a width, or 0.
-fn message_refusal(width: u16, message: &[u8], count: usize) -> u8
-    ensures { result ≡ message_refusal width message.now count }
+// Whether a message is accepted at a width.
+fn message_refusal(width: u16, message: &[u8], count: usize) -> Result<(), Refusal>
+    ensures { number_of result ≡ message_refusal width message.now count }
 {
     if expansion::is_width(width) {
         hash::piece_refusal(0, message, count)
     } else {
-        1
+        Err(Refusal::Width)
     }
 }
 
-// Why two outputs have no room for an index and a digest, or 0.
-fn room_refusal(width: u16, count: usize, index_room: usize, room: usize) -> u8
-    ensures { result ≡ room_refusal width count index_room room }
+// Whether two outputs have room for an index and a digest.
+fn room_refusal(width: u16, count: usize, index_room: usize, room: usize) -> Result<(), Refusal>
+    ensures { number_of result ≡ room_refusal width count index_room room }
 {
     if index_room < index_bytes(width, count) {
-        return 6;
+        return Err(Refusal::Output);
     }
     if room < tail::digest_bytes(width) {
-        return 6;
+        return Err(Refusal::Output);
     }
-    0
+    Ok(())
 }
 
-// Why there is no fresh run, or 0.
-pub fn index_refusal(width: u16, message: &[u8], count: usize, index_room: usize, room: usize) -> u8
-    ensures { result ≡ index_refusal width message.now count index_room room }
+// Whether there is a fresh run.
+pub fn index_refusal(
+    width: u16,
+    message: &[u8],
+    count: usize,
+    index_room: usize,
+    room: usize,
+) -> Result<(), Refusal>
+    ensures { number_of result ≡ index_refusal width message.now count index_room room }
 {
-    let refused = message_refusal(width, message, count);
-    if refused != 0 {
-        return refused;
-    }
+    message_refusal(width, message, count)?;
     room_refusal(width, count, index_room, room)
 }
 
@@ -62,21 +68,21 @@ fn fits(width: u16, count: usize, index: &[u8]) -> bool
     form::read_bits(index) as usize == count
 }
 
-// Why it is none, or the block's number above the length block's, which comes behind the message blocks; or 0.
-fn fit_refusal(width: u16, count: usize, old: &[u8], block: u64) -> u8
-    ensures { result ≡ fit_refusal width count old.now block }
+// Whether it is one, and has a block of this number: the length block comes behind the message blocks.
+fn fit_refusal(width: u16, count: usize, old: &[u8], block: u64) -> Result<(), Refusal>
+    ensures { number_of result ≡ fit_refusal width count old.now block }
 {
     if !fits(width, count, old) {
-        return 15;
+        return Err(Refusal::Index);
     }
     let blocks = kept_counts::message_blocks(width, count) as u64 + 1;
     if blocks <= block {
-        return 15;
+        return Err(Refusal::Index);
     }
-    0
+    Ok(())
 }
 
-// Why there is no correction, or 0.
+// Whether there is a correction.
 pub fn reindex_refusal(
     width: u16,
     message: &[u8],
@@ -85,19 +91,12 @@ pub fn reindex_refusal(
     block: u64,
     index_room: usize,
     room: usize,
-) -> u8
-    ensures { result ≡ reindex_refusal width message.now count old.now block index_room room }
+) -> Result<(), Refusal>
+    ensures { number_of result ≡ reindex_refusal width message.now count old.now block index_room room }
 {
-    let refused = message_refusal(width, message, count);
-    if refused != 0 {
-        return refused;
-    }
-    let unfit = fit_refusal(width, count, old, block);
-    let short = room_refusal(width, count, index_room, room);
-    if unfit != 0 {
-        return unfit;
-    }
-    short
+    message_refusal(width, message, count)?;
+    fit_refusal(width, count, old, block)?;
+    room_refusal(width, count, index_room, room)
 }
 
 // The last kept state at or before a block, counted from 0.

@@ -12,7 +12,7 @@ fn lift(y: u16) -> i32
     requires { y < 257 }
     ensures { result ≡ liftOf y }
 {
-    let z = y as i32;
+    let z = i32::from(y);
     let turn = if y <= 128 { 0 } else { 257 };
     z - turn
 }
@@ -31,7 +31,7 @@ fn code(c: u16, y: u16) -> u16
     requires { (c < 256) × (y < 257) }
     ensures { result ≡ code_of c y }
 {
-    reduced((c as i32) * lift(y))
+    reduced(i32::from(c) * lift(y))
 }
 
 // The codes of 128 values more, by 185 and by 233: one loop, so that each value is lifted once, of as many turns as the compiler unrolls.
@@ -40,12 +40,10 @@ fn more_codes(y: &[u16], by185: &mut [u16], by233: &mut [u16], at: usize)
     requires begun { Begun 185 y.now at by185.old × Begun 233 y.now at by233.old }
     ensures { Begun 185 y.now (at + 128) by185.new × Begun 233 y.now (at + 128) by233.new }
 {
-    let mut k: usize = 0;
-    while k < 128 {
+    for k in 0..128 {
         let v = y[at + k];
         by185[at + k] = code(185, v);
         by233[at + k] = code(233, v);
-        k += 1;
     }
 }
 
@@ -56,9 +54,7 @@ pub fn codes(y: &[u16], by185: &mut [u16], by233: &mut [u16])
     ensures { (by185.new ≡ table (length y.now) (coded 185 y.now))
         × (by233.new ≡ table (length y.now) (coded 233 y.now)) }
 {
-    let mut at: usize = 0;
-    while at < y.len() {
+    for at in (0..y.len()).step_by(128) {
         more_codes(y, by185, by233, at);
-        at += 128;
     }
 }

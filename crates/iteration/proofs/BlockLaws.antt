@@ -2,19 +2,21 @@
 use mathlib.Core.Bool.{false, true}
 use mathlib.Core.List.{List}
 use mathlib.Core.Path.{◌≡◌, sym, ap, ◌∙◌}
-use Prim.Native.Nat.{ℕ, ◌+◌, ◌*◌, ◌-◌, ◌/◌, ◌%◌, ◌^◌, ◌<◌, ◌≤◌}
+use Prim.Native.Nat.{ℕ, ◌+◌, ◌*◌, ◌-◌, ◌/◌, ◌%◌, ◌^◌, ◌<◌, ◌≤◌, min}
 use native.Mathlib.Numerals.{add-one}
 use native.Mathlib.Omega.{arith}
 use native.Mathlib.Decide.{dec_lt}
 use lib.ListN.{length, get_or, take, drop, length-take, take-append-drop}
 use lib.Seq.{get_or-take, get_or-drop}
-use Rattle.simd.specs.Basic.{Family, small, large, block_bytes, block_bits, table}
+use Rattle.simd.specs.Basic.{Family, small, large, state_words, block_bytes, block_bits, table}
 use Rattle.simd.specs.Message.{bits_of, byte_of, message, block, message_blocks, length_block}
 use Rattle.simd.specs.Hash.{chain}
 use Rattle.simd.specs.Steps.{compression}
 use Rattle.laws.proofs.Bits.{byte_ext, byte_bits_of, get_d_bits_of, get_d_take_past, length_bits_of}
 use Rattle.laws.proofs.Chain.{chain_append}
 use Rattle.laws.proofs.Table.{table_ext}
+use Rattle.bits.specs.Zero.{all_zero}
+use Rattle.bits.proofs.Zeros.{zero_at, all_zero_lem}
 use Rattle.compression.proofs.Laws.{part as part-table}
 
 -- Bit t of byte j behind the full blocks of n bits: before the last of these bits, or past it.
@@ -68,9 +70,8 @@ pub compressed_block : (f : Family) (s m : List ℕ) (k : ℕ) {t b : List ℕ} 
     → t ≡ compression f false s (block f m k)
 compressed_block f s m k new step = step ∙ ap (compression f false s) new
 
-pub compressed_length : (f : Family) (s : List ℕ) (bits : ℕ) {t b : List ℕ} → b ≡ table (block_bytes f) (λ j. bits / 256 ^ j % 256)
-    → t ≡ compression f true s b → t ≡ compression f true s (length_block f bits)
-unfolding length_block
+pub compressed_length : (f : Family) (s : List ℕ) (bits : ℕ) {t b : List ℕ} → b ≡ length_block f bits → t ≡ compression f true s b
+    → t ≡ compression f true s (length_block f bits)
 compressed_length f s bits new step = step ∙ ap (compression f true s) new
 
 -- One block more of a chain.
@@ -119,3 +120,50 @@ pub all_odd : (f : Family) (from bytes : List ℕ) (n : ℕ) {s t : List ℕ} �
 all_odd f from bytes n within some full step =
     one_more f from (message bytes n) (n / block_bits f) step (full ∙ full_blocks_lem f from bytes n within)
     ∙ ap (chain f from (message bytes n)) (count_odd f n some)
+
+-- The code counts by the words of a state.
+module _ (f : Family) (w : ℕ) (has : state_words f ≡ w) where
+  pub bytes_are : 4 * w ≡ block_bytes f
+  bytes_are = omega (arith, has)
+
+  pub bits_are : 32 * w ≡ block_bits f
+  bits_are = omega (arith, has)
+
+  pub last_fits : (n : ℕ) → 8 * (4 * w * (n / (32 * w))) + n % (32 * w) ≤ n
+  last_fits n = rw (bytes_are, bits_are) (within f n)
+    where
+      within : (f : Family) (n : ℕ) → 8 * (block_bytes f * (n / block_bits f)) + n % block_bits f ≤ n
+      within small n = omega arith
+      within large n = omega arith
+
+  -- A block is made in the front of room for the larger one.
+  front_bytes : (room : List ℕ) → length room ≡ 128 → length (take (4 * w) room) ≡ block_bytes f
+  front_bytes room size = simp length-take (within f has)
+    where
+      within : (f : Family) → state_words f ≡ w → min (4 * w) (length room) ≡ block_bytes f
+      within small has = omega (arith, has, size)
+      within large has = omega (arith, has, size)
+
+  pub left_fits : (room : List ℕ) (n : ℕ) → length room ≡ 128 → (n % (32 * w) + 7) / 8 ≤ length (take (4 * w) room)
+  left_fits room n size = rw (front_bytes room size, bits_are) (within f)
+    where
+      within : (f : Family) → (n % block_bits f + 7) / 8 ≤ block_bytes f
+      within small = omega arith
+      within large = omega arith
+
+  pub last_block : (room bytes : List ℕ) (n : ℕ) {b : List ℕ} → length room ≡ 128
+      → b ≡ table (length (take (4 * w) room)) (byte_of (message (drop (4 * w * (n / (32 * w))) bytes) (n % (32 * w))))
+      → b ≡ block f (message bytes n) (n / block_bits f)
+  last_block room bytes n size filled = block_last f bytes n (rw (front_bytes room size, bytes_are, bits_are) at filled)
+
+  pub end_block : (room : List ℕ) (bits : ℕ) {b : List ℕ} → length room ≡ 128
+      → b ≡ table (length (take (4 * w) room)) (λ j. bits / 256 ^ j % 256) → b ≡ length_block f bits
+  unfolding length_block
+  end_block room bits size filled = rw (front_bytes room size) at filled
+
+pub zero_front : (n : ℕ) (xs : List ℕ) → all_zero xs ≡ true → all_zero (take n xs) ≡ true
+zero_front n xs zero =
+    all_zero_lem (take n xs)
+    (λ i below.
+    let near : i < n = omega (arith, length-take n xs) in
+    get_or-take n xs i 0 near ∙ zero_at xs zero i)

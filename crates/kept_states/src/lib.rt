@@ -1,23 +1,12 @@
 // The states of an index, and the run that makes them: from a state on, every 16th is written before its block is compressed.
 #![tactic(auto)]
 
-ghost use Rattle.std.specs.Prelude.{◌≡◌, min, ◌+◌, ◌*◌, ◌-◌, ◌/◌, ◌≤◌, length, take};
+ghost use Rattle.std.specs.Prelude.{◌≡◌, ◌+◌, ◌*◌, ◌-◌, ◌/◌, ◌≤◌, length, take};
 ghost use Rattle.simd.specs.Basic.{family_of, block_bytes, block_bits, state_words};
 ghost use Rattle.simd.specs.Message.{bits_of, message as messageOf};
 ghost use Rattle.iteration.specs.Blocks.{absorbed};
 ghost use Rattle.bits.specs.Zero.{padded};
 ghost use Rattle.checkpoints.specs.Index.{kept as keptOf, states as statesOf, states_from, final_from};
-
-// The blocks up to the next kept state, of so many that are left.
-fn stretch(left: usize) -> usize
-    ensures { result ≡ min left 16 }
-{
-    if left < kept_counts::SPACING {
-        left
-    } else {
-        kept_counts::SPACING
-    }
-}
 
 // Compresses so many whole blocks and writes every 16th state, from the one before the first block on.
 fn keep(width: u16, state: &mut [u32; 32], blocks: &[u8], full: usize, states: &mut [u8])
@@ -30,15 +19,13 @@ fn keep(width: u16, state: &mut [u32; 32], blocks: &[u8], full: usize, states: &
         ≡ statesOf (family_of width) (take (state_words (family_of width)) state.old) (bits_of blocks.now) ((full + 15) / 16) }
 {
     let size = tail::block_bytes(width);
-    let mut k = 0;
-    while kept_counts::SPACING * k < full {
+    for k in 0..full.div_ceil(kept_counts::SPACING) {
         let at = size * k;
         little_endian::write_words(&mut states[at..at + size], *state);
         let first = kept_counts::SPACING * k;
         let from = size * first;
-        let count = stretch(full - first);
+        let count = (full - first).min(kept_counts::SPACING);
         tail::absorb(width, state, &blocks[from..from + size * count]);
-        k += 1;
     }
 }
 
@@ -66,6 +53,6 @@ pub fn run_from(
     let middle = size * full;
     keep(width, state, &message[from..middle], full - skipped, states);
     let left = count - 8 * middle;
-    let rest = &message[middle..message.len()];
+    let rest = &message[middle..];
     tail::conclude(width, state, rest, left, count as u64);
 }

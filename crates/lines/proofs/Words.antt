@@ -1,9 +1,11 @@
 -- The lines, word by word with the byte after each.
 use mathlib.Core.List.{List, [], ◌∷◌, ◌++◌, append_assoc}
 use mathlib.Core.Path.{◌≡◌, refl, sym, ap, ◌∙◌}
-use Prim.Native.Nat.{ℕ, ◌+◌}
+use Prim.Native.Nat.{ℕ, ◌+◌, ◌≤◌, ◌<◌}
+use native.Mathlib.Omega.{arith}
 use lib.ListN.{length, length-append}
 use Rattle.text.specs.Text.{decimal, hex}
+use Rattle.text.proofs.Words.{length_decimal}
 use Rattle.check_digits.specs.Quote.{quote}
 use Rattle.lines.specs.Lines.{line, digest_word, done_word, refused_word, at_word, digest_line, done_line, refused_line}
 
@@ -12,6 +14,10 @@ spaced word = word ++ (32 ∷ [])
 
 abbrev pub ended : List ℕ → List ℕ
 ended word = word ++ (10 ∷ [])
+
+-- A width has at most 5 digits, so that the longest line ends at 182.
+pub short_width : (width : ℕ) → width < 65536 → length (spaced (decimal width)) ≤ 6
+short_width width below = omega (arith, length-append (decimal width) (32 ∷ []), length_decimal 5 width (omega arith) (omega arith))
 
 -- The digest's line before its end.
 abbrev pub words : ℕ → ℕ → List ℕ → List ℕ

@@ -11,29 +11,29 @@ pub fn digest_line(text: &mut [u8], number: usize, width: u16, digest: &[u8]) ->
     ensures { (text.new ≡ over text.old 0 (digest_line number width digest.now))
         × (result ≡ length (digest_line number width digest.now)) }
 {
-    let a = text::put(text, 0, b"digest ");
-    let b = text::decimal(text, a, number as u64, 32);
-    let c = text::decimal(text, b, width as u64, 32);
-    let d = text::hex(text, c, digest, 32);
-    let e = quote_text::write(text, d, digest);
-    text[e] = 10;
-    e + 1
+    let next = text::put(text, 0, b"digest ");
+    let next = text::decimal(text, next, number as u64, b' ');
+    let next = text::decimal(text, next, u64::from(width), b' ');
+    let next = text::hex(text, next, digest, b' ');
+    let next = quote_text::write(text, next, digest);
+    text[next] = b'\n';
+    next + 1
 }
 
 pub fn done_line(text: &mut [u8], count: usize) -> usize
     requires { 192 ≤ length text.old }
     ensures { (text.new ≡ over text.old 0 (done_line count)) × (result ≡ length (done_line count)) }
 {
-    let a = text::put(text, 0, b"done ");
-    text::decimal(text, a, count as u64, 10)
+    let next = text::put(text, 0, b"done ");
+    text::decimal(text, next, count as u64, b'\n')
 }
 
 pub fn refused_line(text: &mut [u8], number: u8, place: usize) -> usize
     requires { 192 ≤ length text.old }
     ensures { (text.new ≡ over text.old 0 (refused_line number place)) × (result ≡ length (refused_line number place)) }
 {
-    let a = text::put(text, 0, b"refused ");
-    let b = text::decimal(text, a, number as u64, 32);
-    let c = text::put(text, b, b"at ");
-    text::decimal(text, c, place as u64, 10)
+    let next = text::put(text, 0, b"refused ");
+    let next = text::decimal(text, next, u64::from(number), b' ');
+    let next = text::put(text, next, b"at ");
+    text::decimal(text, next, place as u64, b'\n')
 }

@@ -1,19 +1,21 @@
 -- Laws of words and numbers written and read, low byte first.
 use mathlib.Core.List.{List, ◌++◌}
-use mathlib.Core.Path.{◌≡◌, sym, ap, ◌∙◌}
-use Prim.Native.Nat.{ℕ, ◌+◌, ◌*◌, ◌/◌, ◌%◌, ◌^◌, ◌<◌, ◌≤◌}
-use native.Mathlib.Nat.{pow-suc, div-div-eq-div-mul, mod-eq_of_lt, add-zero}
-use native.Mathlib.Numerals.{add-one}
+use mathlib.Core.Path.{◌≡◌, sym, ap, ◌∙◌, subst}
+use Prim.Native.Nat.{ℕ, zero, suc, ◌+◌, ◌*◌, ◌-◌, ◌/◌, ◌%◌, ◌^◌, ◌<◌, ◌≤◌}
+use native.Mathlib.Nat.{mod-eq_of_lt}
 use native.Mathlib.Omega.{arith}
-use lib.Dec.{lit<}
-use lib.ListN.{length, get_or, take, set, length-take, get_or-append, drop}
+use lib.ListN.{length, get_or, take, drop, length-take, get_or-append}
 use lib.Seq.{get_or-take, get_or-drop}
+use borrow.Rule.Slice.PartMut.{put_mid}
+use Rattle.std.specs.Int.{bytes_low_first, byte_worth, sum_through}
 use Rattle.simd.specs.Basic.{bytes_of, table, sum}
 use Rattle.laws.proofs.Table.{length_table, get_d_table, table_of, table_ext}
 use Rattle.laws.proofs.Sum.{sum_ext}
 use Rattle.laws.proofs.LittleEndian.{digits_sum, sum_digits, get_d_bytes_of, length_bytes_of}
 use Rattle.bits.specs.Zero.{padded}
-use Rattle.bits.proofs.Filling.{Filled, filled_more}
+use Rattle.bits.proofs.Filling.{Filled}
+use Rattle.bits.proofs.Parts.{filled_part}
+use Rattle.bits.proofs.Bytes.{low_bytes}
 use Rattle.bits.proofs.Zeros.{get_d_padded, length_padded}
 use Rattle.little_endian.specs.Numbers.{little_endian, number}
 
@@ -29,23 +31,15 @@ word_part words i k less =
     λ t. get_or words (word t) 0 / 256 ^ place t % 256
 
 -- One more word written.
-pub word_more : (n i : ℕ) (words out : List ℕ) → Filled n (4 * i) (word_byte words) out → 4 * i + 3 < n
-    → Filled n (4 * (i + 1)) (word_byte words)
-    (set (set (set (set out (4 * i) (get_or words i 0 % 256)) (4 * i + 1) (get_or words i 0 / 2 ^ 8 % 256))
-    (4 * i + 2) (get_or words i 0 / 2 ^ 16 % 256)) (4 * i + 3) (get_or words i 0 / 2 ^ 24 % 256))
-word_more n i words out f below =
-    let w = get_or words i 0 in
-    let low : w % 256 ≡ w / 1 % 256 = omega arith in
-    let start : 4 * i + 0 ≡ 4 * i = omega arith in
-    let first : w % 256 ≡ word_byte words (4 * i) = low ∙ word_part words i 0 (lit< tt) ∙ ap (word_byte words) start in
-    let one = filled_more n (4 * i) (word_byte words) out (w % 256) f (omega arith) first in
-    let two = filled_more n (4 * i + 1) (word_byte words) _ (w / 2 ^ 8 % 256) one (omega arith) (word_part words i 1 (lit< tt)) in
-    let at_two : 4 * i + 1 + 1 ≡ 4 * i + 2 = omega arith in
-    let three = filled_more n (4 * i + 2) (word_byte words) _ (w / 2 ^ 16 % 256) (rw at_two at two) (omega arith) (word_part words i 2 (lit< tt)) in
-    let at_three : 4 * i + 2 + 1 ≡ 4 * i + 3 = omega arith in
-    let four = filled_more n (4 * i + 3) (word_byte words) _ (w / 2 ^ 24 % 256) (rw at_three at three) below (word_part words i 3 (lit< tt)) in
-    let next : 4 * i + 3 + 1 ≡ 4 * (i + 1) = omega arith in
-    rw next at four
+pub word_more : (n i : ℕ) (words out bytes : List ℕ) → Filled n (4 * i) (word_byte words) out → 4 * i + 4 ≤ n → bytes ≡ bytes_low_first 0 4 (get_or words i 0)
+    → Filled n (4 * (i + 1)) (word_byte words) (put_mid (4 * i) (4 * i + 4 - 4 * i) out bytes)
+word_more n i words out bytes f within written =
+    let digit = λ (t : ℕ). get_or words i 0 / 256 ^ t % 256 in
+    let four = written ∙ low_bytes 4 (get_or words i 0) in
+    let next : 4 * i + 4 ≡ 4 * (i + 1) = omega arith in
+    subst (λ e. Filled n e (word_byte words) (put_mid (4 * i) (4 * i + 4 - 4 * i) out bytes)) next
+    (filled_part n (4 * i) 4 (word_byte words) out bytes f within (ap length four ∙ length_table 4 digit)
+    (λ t below. ap (λ l. get_or l t 0) four ∙ get_d_table 4 digit t 0 below ∙ word_part words i t below))
 
 pub take_bytes : (n : ℕ) (words : List ℕ) → n ≤ 4 * length words → take n (bytes_of words) ≡ table n (word_byte words)
 unfolding word_byte
@@ -61,14 +55,6 @@ state_bytes n words within short =
     ∙ table_ext n (word_byte (padded 32 words)) (word_byte words)
     (λ j _. ap (λ (x : ℕ). x / 256 ^ (j % 4) % 256) (get_d_padded 32 words (j / 4) short))
     ∙ sym (take_bytes n words within)
-
--- A number's digits, one after the other.
-pub next_digit : (x i rest : ℕ) → rest ≡ x / 256 ^ i → rest / 256 ≡ x / 256 ^ (i + 1)
-next_digit x i rest same =
-    ap (λ (n : ℕ). n / 256) same
-    ∙ div-div-eq-div-mul x (256 ^ i) 256
-    ∙ ap (λ (n : ℕ). x / n) (sym (pow-suc 256 i))
-    ∙ ap (λ (n : ℕ). x / 256 ^ n) (sym (add-one i))
 
 -- Numbers written and read.
 pub length_little_endian : (n x : ℕ) → length (little_endian n x) ≡ n
@@ -91,12 +77,18 @@ number_read n bytes fits long =
     sym (table_of 0 n (λ t. number n bytes / 256 ^ t % 256) (take n bytes) (omega (arith, length-take n bytes))
     (λ t below. get_or-take n bytes t 0 below ∙ sym (sum_digits n (λ t. get_or bytes t 0) (λ i _. fits i) t below)))
 
-pub read_four : (bytes : List ℕ) (at a b c d : ℕ) → a ≡ get_or bytes at 0 → b ≡ get_or bytes (at + 1) 0 → c ≡ get_or bytes (at + 2) 0 → d ≡ get_or bytes (at + 3) 0
-    → a + 256 * b + 65536 * c + 16777216 * d ≡ number 4 (drop at bytes)
-unfolding number sum
-read_four bytes at a b c d first second third fourth =
-    let start = get_or-drop at bytes 0 0 ∙ ap (λ (n : ℕ). get_or bytes n 0) (add-zero at) in
-    omega (arith, start, get_or-drop at bytes 1 0, get_or-drop at bytes 2 0, get_or-drop at bytes 3 0)
+-- The first bytes of a string, each times what it is worth.
+worth : (k : ℕ) (f : ℕ → ℕ) → sum_through (λ i. byte_worth i (f i)) k ≡ sum (suc k) (λ t. f t * 256 ^ t)
+unfolding sum
+worth zero f = omega arith
+worth (suc k) f = ap (λ s. s + f (suc k) * 256 ^ suc k) (worth k f)
+
+pub number_of : (k : ℕ) (xs ys : List ℕ) → ys ≡ take (suc k) xs → sum_through (λ i. byte_worth i (get_or ys i 0)) k ≡ number (suc k) xs
+unfolding number
+number_of k xs ys first =
+    worth k (λ i. get_or ys i 0)
+    ∙ sum_ext (suc k) (λ t. get_or ys t 0 * 256 ^ t) (λ t. get_or xs t 0 * 256 ^ t)
+    (λ t below. ap (λ b. b * 256 ^ t) (ap (λ l. get_or l t 0) first ∙ get_or-take (suc k) xs t 0 below))
 
 -- Eight bytes are two words.
 pub read_eight : (bytes : List ℕ) (at a b : ℕ) → a ≡ number 4 (drop at bytes) → b ≡ number 4 (drop (at + 4) bytes)

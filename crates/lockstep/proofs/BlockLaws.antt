@@ -5,7 +5,7 @@ use mathlib.Core.Path.{◌≡◌, sym, ap, ◌∙◌}
 use Prim.Native.Nat.{ℕ, zero, suc, ◌+◌, ◌*◌, ◌-◌, ◌/◌, ◌^◌, ◌<◌, ◌≤◌, min}
 use native.Mathlib.Decide.{dec_lt}
 use native.Mathlib.Omega.{arith}
-use lib.ListN.{length, get_or, take, drop, get_or-eq_default}
+use lib.ListN.{length, get_or, take, drop, get_or-eq_default, length-take}
 use lib.Seq.{get_or-drop}
 use Rattle.simd.specs.Basic.{Family, small, large, block_bytes, block_bits, table}
 use Rattle.simd.specs.Message.{byte_of, message, block, message_blocks}
@@ -104,11 +104,11 @@ module _ (f : Family) (bytes : List ℕ) (n number : ℕ) (fits : (j : ℕ) → 
   block_filled filled = filled ∙ cut_block
 
 -- One block is what `tail::absorb` finds in the bytes of a block.
-pub absorbed_once : (f : Family) (s x : List ℕ) (size : ℕ) {cut new : List ℕ} → size ≡ block_bytes f → cut ≡ take size (drop 0 x)
-    → length cut ≡ size → new ≡ padded 32 (absorbed f s cut (length cut / block_bytes f)) → new ≡ padded 32 (absorbed f s (take (block_bytes f) x) 1)
-absorbed_once f s x size {cut} sized read long absorbs =
-    let one : length cut / block_bytes f ≡ 1 = once f (length cut) (long ∙ sized) in
-    absorbs ∙ rw (one, read, sized)
+pub absorbed_once : (f : Family) (s x : List ℕ) (size : ℕ) {new : List ℕ} → size ≡ block_bytes f → size ≤ length x
+    → new ≡ padded 32 (absorbed f s (take size x) (length (take size x) / block_bytes f)) → new ≡ padded 32 (absorbed f s (take (block_bytes f) x) 1)
+absorbed_once f s x size sized within absorbs =
+    let one : length (take size x) / block_bytes f ≡ 1 = once f (length (take size x)) (omega (arith, length-take size x)) in
+    absorbs ∙ rw (one, sized)
   where
     once : (f : Family) (l : ℕ) → l ≡ block_bytes f → l / block_bytes f ≡ 1
     once small l e = omega arith

@@ -2,7 +2,8 @@
 use mathlib.Core.Bool.{Bool, true, false, cond, not, ◌&&◌}
 use mathlib.Core.List.{List}
 use mathlib.Core.Path.{◌≡◌, refl, sym, ap, ◌∙◌}
-use Prim.Native.Nat.{ℕ, suc, ◌^◌, ◌<◌, min}
+use Prim.Native.Nat.{ℕ, suc, ◌*◌, ◌^◌, ◌<◌, ◌≤◌, min}
+use lib.ListN.{length}
 use native.Mathlib.Decide.{ℕ_discrete}
 use native.Mathlib.Omega.{arith}
 use borrow.Author.Tests.{eq-eqb, ne_eqb}
@@ -12,9 +13,7 @@ use Rattle.simd.specs.Constants.{start}
 use Rattle.simd.specs.Message.{message, length_block, message_blocks}
 use Rattle.simd.specs.Hash.{compressions}
 use Rattle.tail.proofs.Sizes.{words_within}
-use Rattle.hash.specs.Open.{piece_refusal}
 use Rattle.hash.proofs.Feeding.{length_message}
-use Rattle.hash.proofs.Refusing.{Accepted, accepted}
 use Rattle.pairs.specs.Lists.{equal, least}
 use Rattle.pairs.specs.Pairs.{unlike, block_at, differ_at}
 use Rattle.pairs.specs.Compared.{common}
@@ -33,23 +32,8 @@ turned : (q : Bool) (x : ℕ) → cond q x 0 ≡ cond (not q) 0 x
 turned true x = refl
 turned false x = refl
 
-and_false : (p : Bool) → p && false ≡ false
-and_false true = refl
-and_false false = refl
-
--- The number with the length blocks taken in.
-module _ (s : List ℕ) (m : ℕ) (t : List ℕ) (n met : ℕ) where
-  pub length_same : equal s t ≡ true → m ≡ n → met ≡ cond (equal s t && eqb m n) met 0
-  length_same e h = rw (e, eq-eqb m n h)
-
-  pub length_other : (m ≡ n → ⊥) → 0 ≡ cond (equal s t && eqb m n) met 0
-  length_other h = rw (ne_eqb m n h, and_false (equal s t))
-
-  pub states_other : equal s t ≡ false → 0 ≡ cond (equal s t && eqb m n) met 0
-  states_other e = rw e
-
 module _ (width : ℕ) (a : List ℕ) (m : ℕ) (b : List ℕ) (n : ℕ) (known : is_width width ≡ true)
-    (first : piece_refusal 0 a m ≡ 0) (second : piece_refusal 0 b n ≡ 0) where
+    (within_a : m ≤ 8 * length a) (short_a : m < 2 ^ 64) (within_b : n ≤ 8 * length b) (short_b : n < 2 ^ 64) where
   abbrev f : Family
   f = family_of width
 
@@ -59,15 +43,9 @@ module _ (width : ℕ) (a : List ℕ) (m : ℕ) (b : List ℕ) (n : ℕ) (known 
   abbrev y : List ℕ
   y = message b n
 
-  wa : Accepted 0 a m
-  wa = accepted 0 a m first
-
-  wb : Accepted 0 b n
-  wb = accepted 0 b n second
-
   common_numbers : common f x y ≡ suc (min (message_blocks f m) (message_blocks f n))
   unfolding common compressions
-  common_numbers = rw (length_message a m wa.within, length_message b n wb.within) (omega arith)
+  common_numbers = rw (length_message a m within_a, length_message b n within_b) (omega arith)
 
   -- At the length blocks.
   differ_length : {s t : List ℕ} → Reached width x y 0 s t → not (equal s t && eqb m n) ≡ differ_at f (start width) x y 0
@@ -75,9 +53,9 @@ module _ (width : ℕ) (a : List ℕ) (m : ℕ) (b : List ℕ) (n : ℕ) (known 
   differ_length reached =
       rw (reached.first, reached.second, equal_padded 32 (state_words f) _ _ (length_state width known x 0) (length_state width known y 0) (words_within f))
       (rw (
-        length_message a m wa.within,
-        length_message b n wb.within,
-        length_test f m n (omega (arith, wa.short)) (omega (arith, wb.short)) (ℕ_discrete m n),
+        length_message a m within_a,
+        length_message b n within_b,
+        length_test f m n short_a short_b (ℕ_discrete m n),
       ) refl)
 
   pub meeting_number : {k met r : ℕ} {s t : List ℕ} → k ≡ min (message_blocks f m) (message_blocks f n) → Reached width x y 0 s t

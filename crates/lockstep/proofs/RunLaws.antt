@@ -19,6 +19,7 @@ use Rattle.bits.specs.Zero.{padded}
 use Rattle.bits.proofs.Zeros.{take_padded}
 use Rattle.tail.proofs.Sizes.{bytes_within, words_within, chain_length}
 use Rattle.hash.proofs.Feeding.{length_message, bits_message, start_length}
+use Rattle.pairs.specs.declared.Message.{Message}
 use Rattle.pairs.specs.Lists.{least}
 use Rattle.pairs.specs.Pairs.{state_at, block_at, unlike, differ_at}
 use Rattle.pairs.proofs.PairLaws.{first_state, out_of_message}
@@ -33,13 +34,8 @@ few small n = omega arith
 few large n = omega arith
 
 -- Fewer blocks are both messages' too.
-pub fewer : {width : ℕ} {a : List ℕ} {m : ℕ} {b : List ℕ} {n j k : ℕ} → Both width a m b n k → j ≤ k → Both width a m b n j
-fewer both less =
-    record {
-      known = both.known;
-      first = (both.first.0, omega (arith, both.first.1));
-      second = (both.second.0, omega (arith, both.second.1));
-    }
+pub fewer : {width : ℕ} {a b : Message} {j k : ℕ} → Both width a b k → j ≤ k → Both width a b j
+fewer both less = record { known = both.known; first = omega (arith, both.first); second = omega (arith, both.second) }
 
 -- A block's own bytes, read as a byte string of one block.
 one_block : (f : Family) (s b : List ℕ) → length b ≡ block_bytes f → ((j : ℕ) → get_or b j 0 < 256) → absorbed f s b 1 ≡ compression f false s b

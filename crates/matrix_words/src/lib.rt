@@ -9,7 +9,7 @@ ghost use Rattle.matrix_words.specs.Layers.{neighbours, half as half_of, halves_
 fn joined(low: u16, high: u16) -> u32
     ensures { result ≡ low + 65536 * high }
 {
-    (low as u32) + 65536 * (high as u32)
+    u32::from(low) + 65536 * u32::from(high)
 }
 
 // Words of two neighbouring codes.
@@ -17,15 +17,14 @@ fn words(codes: &[u16], n: usize, out: &mut [u32])
     requires { (length codes.now ≡ 2 * n) × (length out.old ≡ n) }
     ensures { out.new ≡ table n (neighbours codes.now) }
 {
-    let mut k: usize = 0;
-    while k < n {
+    for k in 0..n {
         let at = 2 * k;
         out[k] = joined(codes[at], codes[at + 1]);
-        k += 1;
     }
 }
 
 // The low half of a word for shift 0, the high half for shift 16.
+#[tactic(auto, unfolding(crate::specs::Layers::half))]
 fn half(word: u32, shift: u32) -> u32
     requires { shift ≤ 16 }
     ensures { (result ≡ half_of shift word) × (result < 65536) }
@@ -38,10 +37,8 @@ fn halves(words: &[u32], shift: u32, n: usize, out: &mut [u32])
     requires { (shift ≤ 16) × ((length words.now ≡ 2 * n) × (length out.old ≡ n)) }
     ensures { out.new ≡ table n (halves_apart n shift words.now) }
 {
-    let mut k: usize = 0;
-    while k < n {
+    for k in 0..n {
         out[k] = half(words[k], shift) + 65536 * half(words[k + n], shift);
-        k += 1;
     }
 }
 

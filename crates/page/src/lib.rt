@@ -3,7 +3,10 @@
 
 ghost use Rattle.std.specs.Prelude.{◌≡◌, length};
 ghost use Rattle.hash.specs.Open.{written};
+ghost use Rattle.refusals.specs.Numbers.{number_of};
 ghost use Rattle.ledger.specs.Page.{entry_lines, entry_bytes, print_refusal};
+
+use refusals::Refusal;
 
 // The bytes of an entry's lines.
 fn entry_bytes(width: u16) -> usize
@@ -16,37 +19,34 @@ fn entry_bytes(width: u16) -> usize
     }
 }
 
-// Why an entry is not printed into so many bytes, or 0.
-fn refusal(number: u64, width: u16, digest: &[u8], room: usize) -> u8
-    ensures { result ≡ print_refusal number width digest.now room }
+// Whether an entry is printed into so many bytes.
+fn refusal(number: u64, width: u16, digest: &[u8], room: usize) -> Result<(), Refusal>
+    ensures { number_of result ≡ print_refusal number width digest.now room }
 {
     if !expansion::is_width(width) {
-        return 1;
+        return Err(Refusal::Width);
     }
     let bytes = tail::digest_bytes(width);
     let lines = entry_bytes(width);
     if digest.len() != bytes {
-        return 7;
+        return Err(Refusal::Block);
     }
     if 999_999 < number {
-        return 14;
+        return Err(Refusal::Entry);
     }
     if room < lines {
-        return 6;
+        return Err(Refusal::Output);
     }
-    0
+    Ok(())
 }
 
-// Prints one entry: its number, its width and its digest. Answers the refusal's number, or 0. Refusals 1, 7, 14, 6.
-pub fn entry(number: u64, width: u16, digest: &[u8], out: &mut [u8]) -> u8
-    ensures value { result ≡ print_refusal number width digest.now (length out.old) }
+// Prints one entry: its number, its width and its digest. Refusals 1, 7, 14, 6.
+pub fn entry(number: u64, width: u16, digest: &[u8], out: &mut [u8]) -> Result<(), Refusal>
+    ensures value { number_of result ≡ print_refusal number width digest.now (length out.old) }
     ensures out_after { out.new ≡ written (print_refusal number width digest.now (length out.old))
         (entry_lines number width digest.now) out.old }
 {
-    let refused = refusal(number, width, digest, out.len());
-    if refused != 0 {
-        return refused;
-    }
+    refusal(number, width, digest, out.len())?;
     page_lines::print(out, number, width, digest);
-    0
+    Ok(())
 }

@@ -1,19 +1,13 @@
 -- Laws of columns written into a buffer.
 use mathlib.Core.List.{List, [], ◌∷◌, ◌++◌, append_assoc}
 use mathlib.Core.Path.{◌≡◌, sym, ap, ◌∙◌}
-use Prim.Native.Nat.{ℕ, ◌+◌, ◌*◌, ◌-◌, ◌≤◌, ◌<◌}
+use Prim.Native.Nat.{ℕ, ◌+◌, ◌*◌, ◌-◌, ◌≤◌}
 use native.Mathlib.Omega.{arith}
-use lib.ListN.{length, set, replicate, length-append, length-replicate, replicate-append-replicate}
+use lib.ListN.{length, set, length-append, length-replicate, replicate-append-replicate}
 use Rattle.text.specs.Text.{over, decimal, hex}
 use Rattle.text.proofs.Over.{length_over, over_byte, over_end}
 use Rattle.text.proofs.Words.{length_hex}
 use Rattle.ledger.specs.Page.{spaces, right, left}
-
--- One byte more of a fill.
-pub fill_more : (t : List ℕ) (at i byte : ℕ) → at + i < length t → set (over t at (replicate i byte)) (at + i) byte ≡ over t at (replicate (i + 1) byte)
-fill_more t at i byte fits =
-    over_byte t at (replicate i byte) byte (at + i) (omega (arith, length-replicate {A = ℕ} i byte)) fits
-    ∙ ap (over t at) (replicate-append-replicate i 1 byte)
 
 -- A number: spaces, and over the last of them the digits and the space behind these.
 module _ (t : List ℕ) (at columns n : ℕ) (few : length (decimal n) ≤ columns) (fits : at + columns + 1 ≤ length t) where

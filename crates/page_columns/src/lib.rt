@@ -10,12 +10,9 @@ pub fn fill(text: &mut [u8], at: usize, count: usize, byte: u8) -> usize
     requires { at + count ≤ length text.old }
     ensures { (text.new ≡ over text.old at (replicate count byte)) × (result ≡ at + count) }
 {
-    let mut i = 0;
-    while i < count {
-        text[at + i] = byte;
-        i += 1;
-    }
-    at + i
+    let end = at + count;
+    text[at..end].fill(byte);
+    end
 }
 
 // A number at the right end of its columns, and a space. The digits are written apart first, as their number tells where they start.
@@ -24,8 +21,8 @@ pub fn number(text: &mut [u8], at: usize, columns: usize, n: u64) -> usize
     ensures { (text.new ≡ over text.old at (rightOf columns (decimalOf n) ++ (32 ∷ []))) × (result ≡ at + columns + 1) }
 {
     let mut digits = [0u8; 21];
-    let count = text::decimal(&mut digits, 0, n, 32);
-    let end = fill(text, at, columns + 1, 32);
+    let count = text::decimal(&mut digits, 0, n, b' ');
+    let end = fill(text, at, columns + 1, b' ');
     let start = end - count;
     text::put(text, start, &digits[..count])
 }
@@ -35,9 +32,9 @@ pub fn digits(text: &mut [u8], at: usize, bytes: &[u8]) -> usize
     requires { (length bytes.now ≤ 32) × (at + 65 ≤ length text.old) }
     ensures { (text.new ≡ over text.old at (left_of 64 (hexOf bytes.now) ++ (10 ∷ []))) × (result ≡ at + 65) }
 {
-    text::hex(text, at, bytes, 32);
+    text::hex(text, at, bytes, b' ');
     let gap = 64 - 2 * bytes.len();
-    let end = fill(text, at + 2 * bytes.len(), gap, 32);
-    text[end] = 10;
+    let end = fill(text, at + 2 * bytes.len(), gap, b' ');
+    text[end] = b'\n';
     end + 1
 }

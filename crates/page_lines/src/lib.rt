@@ -11,7 +11,7 @@ fn front(text: &mut [u8], number: u64, width: u16) -> usize
     ensures { (text.new ≡ over text.old 0 (frontOf number width)) × (result ≡ 11) }
 {
     let next = page_columns::number(text, 0, 6, number);
-    page_columns::number(text, next, 3, width as u64)
+    page_columns::number(text, next, 3, u64::from(width))
 }
 
 // All lines of an entry: one line holds the digits of 32 bytes.
@@ -25,6 +25,6 @@ pub fn print(text: &mut [u8], number: u64, width: u16, digest: &[u8])
         return;
     }
     let second = page_columns::digits(text, at, &digest[..32]);
-    let rest = page_columns::fill(text, second, 11, 32);
+    let rest = page_columns::fill(text, second, 11, b' ');
     page_columns::digits(text, rest, &digest[32..]);
 }

@@ -29,18 +29,18 @@ pub record SamePair (f : Family) (from a b : List ℕ) (n : ℕ) : Type 0 where
 -- Which case a pick by two tests is.
 pick_same : (t u : Bool) (k : ℕ) → cond t same (cond u (meet k) apart) ≡ same → t ≡ true
 pick_same true u k e = refl
-pick_same false true k e = absurd (let z : ◌≡◌ {A = ℕ} 0 1 = cc in omega arith)
-pick_same false false k e = absurd (let z : ◌≡◌ {A = ℕ} 0 1 = cc in omega arith)
+pick_same false true k e = cc
+pick_same false false k e = cc
 
 pick_apart : (t u : Bool) (k : ℕ) → cond t same (cond u (meet k) apart) ≡ apart → (t ≡ false) × (u ≡ false)
-pick_apart true u k e = absurd (let z : ◌≡◌ {A = ℕ} 0 1 = cc in omega arith)
-pick_apart false true k e = absurd (let z : ◌≡◌ {A = ℕ} 0 1 = cc in omega arith)
+pick_apart true u k e = cc
+pick_apart false true k e = cc
 pick_apart false false k e = (refl, refl)
 
 pick_meet : (t u : Bool) (k j : ℕ) → cond t same (cond u (meet k) apart) ≡ meet j → (t ≡ false) × (u ≡ true) × (k ≡ j)
-pick_meet true u k j e = absurd (let z : ◌≡◌ {A = ℕ} 0 1 = cc in omega arith)
+pick_meet true u k j e = cc
 pick_meet false true k j e = (refl, refl, cc)
-pick_meet false false k j e = absurd (let z : ◌≡◌ {A = ℕ} 0 1 = cc in omega arith)
+pick_meet false false k j e = cc
 
 module _ (f : Family) (from a b : List ℕ) where
   abbrev number : ℕ
@@ -132,19 +132,19 @@ module _ (f : Family) (from a b : List ℕ) where
 pub verdict_same : (x : Found) → verdict 0 x ≡ Same → x ≡ same
 unfolding verdict
 verdict_same same e = refl
-verdict_same apart e = absurd (let z : ◌≡◌ {A = ℕ} 0 1 = cc in omega arith)
-verdict_same (meet k) e = absurd (let z : ◌≡◌ {A = ℕ} 0 1 = cc in omega arith)
+verdict_same apart e = cc
+verdict_same (meet k) e = cc
 
 pub verdict_apart : (x : Found) → verdict 0 x ≡ Apart → x ≡ apart
 unfolding verdict
-verdict_apart same e = absurd (let z : ◌≡◌ {A = ℕ} 0 1 = cc in omega arith)
+verdict_apart same e = cc
 verdict_apart apart e = refl
-verdict_apart (meet k) e = absurd (let z : ◌≡◌ {A = ℕ} 0 1 = cc in omega arith)
+verdict_apart (meet k) e = cc
 
 pub verdict_meet : (x : Found) (k : ℕ) → verdict 0 x ≡ Meet k → x ≡ meet k
 unfolding verdict
-verdict_meet same k e = absurd (let z : ◌≡◌ {A = ℕ} 0 1 = cc in omega arith)
-verdict_meet apart k e = absurd (let z : ◌≡◌ {A = ℕ} 0 1 = cc in omega arith)
+verdict_meet same k e = cc
+verdict_meet apart k e = cc
 verdict_meet (meet j) k e = ap meet (cc)
 
 -- Where nothing is refused, neither message is.

@@ -1,23 +1,46 @@
 -- Laws of `equal` and `least`.
-use mathlib.Core.Bool.{Bool, true, false, cond, ◌&&◌}
+use Rattle.std.proofs.lemmas.Slice.Eq.{bytes_eq-Decides}
+use Rattle.std.specs.Cmp.Lexicographic.{pointwise}
+use Rattle.std.specs.Prelude.{nat_eq}
+use mathlib.Core.Bool.{Bool, true, false, cond, not}
 use mathlib.Core.List.{List, [], ◌∷◌, ◌++◌}
 use mathlib.Core.Path.{◌≡◌, refl, sym, ap, ◌∙◌, subst}
 use Prim.Native.Nat.{ℕ, zero, suc, ◌+◌, ◌<◌, ◌≤◌}
 use native.Mathlib.Decide.{ℕ_discrete}
 use native.Mathlib.Omega.{arith}
-use borrow.Author.Tests.{eqb-true, eq-eqb}
+use borrow.Author.Tests.{eq-eqb}
 use lib.Dec.{eqb}
 use lib.ListN.{length, get_or}
 use lib.Seq.{ext_get_or}
 use Rattle.pairs.specs.Lists.{equal, least}
 
-pub true≢false : true ≡ false → ⊥
-true≢false e = let z : ◌≡◌ {A = ℕ} 0 1 = cc in omega arith
+-- What the code's `!=` of slices says, by its answer.
+not_true : (t : Bool) → not t ≡ true → t ≡ false
+not_true true e = cc
+not_true false e = refl
+
+not_false : (t : Bool) → not t ≡ false → t ≡ true
+not_false true e = refl
+not_false false e = cc
+
+pub slices_other : (a b : List ℕ) {r : Bool} → r ≡ not (pointwise nat_eq a b) → r ≡ true → equal a b ≡ false
+unfolding equal
+slices_other a b test other = not_true (pointwise nat_eq a b) (sym test ∙ other)
+
+pub slices_same : (a b : List ℕ) {r : Bool} → r ≡ not (pointwise nat_eq a b) → r ≡ false → equal a b ≡ true
+unfolding equal
+slices_same a b test same = not_false (pointwise nat_eq a b) (sym test ∙ same)
+
+pub equal_true : (a b : List ℕ) → equal a b ≡ true → a ≡ b
+unfolding equal
+equal_true a b e = (bytes_eq-Decides a b).0 e
+
+pub same_equal : (a b : List ℕ) → a ≡ b → equal a b ≡ true
+unfolding equal
+same_equal a b e = (bytes_eq-Decides a b).1 e
 
 pub equal_refl : (l : List ℕ) → equal l l ≡ true
-unfolding equal
-equal_refl [] = refl
-equal_refl (x ∷ xs) = rw (eq-eqb x x refl) (equal_refl xs)
+equal_refl l = same_equal l l refl
 
 -- Lists with equal fronts are equal exactly where the rests are.
 pub equal_behind : (a b c : List ℕ) → equal (a ++ b) (a ++ c) ≡ equal b c
@@ -25,28 +48,10 @@ unfolding equal
 equal_behind [] b c = refl
 equal_behind (x ∷ xs) b c = rw (eq-eqb x x refl) (equal_behind xs b c)
 
-pub both : (p q : Bool) → p && q ≡ true → (p ≡ true) × (q ≡ true)
-both true q e = (refl, e)
-both false q e = absurd (true≢false (sym e))
-
-pub equal_true : (a b : List ℕ) → equal a b ≡ true → a ≡ b
-unfolding equal
-equal_true [] [] e = refl
-equal_true [] (y ∷ ys) e = absurd (true≢false (sym e))
-equal_true (x ∷ xs) [] e = absurd (true≢false (sym e))
-equal_true (x ∷ xs) (y ∷ ys) e =
-    let parts = both (eqb x y) (equal xs ys) e in
-    let first = eqb-true x y parts.0 in
-    let rest = equal_true xs ys parts.1 in
-    λ i. first i ∷ rest i
-
-pub same_equal : (a b : List ℕ) → a ≡ b → equal a b ≡ true
-same_equal a b e = subst (λ (l : List ℕ). equal a l ≡ true) e (equal_refl a)
-
 pub equal_false : (a b : List ℕ) → equal a b ≡ false → a ≡ b → ⊥
-equal_false a b n e = true≢false (sym (same_equal a b e) ∙ n)
+equal_false a b n e = let t = same_equal a b e in cc
 
-pub is_false : (t : Bool) → (t ≡ true → ⊥) → t ≡ false
+is_false : (t : Bool) → (t ≡ true → ⊥) → t ≡ false
 is_false true h = absurd (h refl)
 is_false false h = refl
 
@@ -88,12 +93,9 @@ least_is p zero n =
     record { from = omega arith; within = omega arith; hit = λ high. absurd (omega arith); below = λ i low high. absurd (omega arith) }
 least_is p (suc k) n = least_step p k n (least p k (suc n)) (p n) refl (least_is p k (suc n))
 
--- Lists of one length with equal elements are equal; those with another length, or another element at a place, are not.
+-- Lists of one length with equal elements are equal; those with another length are not.
 pub equal_all : (a b : List ℕ) → length a ≡ length b → ((k : ℕ) → k < length a → get_or a k 0 ≡ get_or b k 0) → equal a b ≡ true
 equal_all a b e h = same_equal a b (ext_get_or 0 a b e h)
 
 pub unequal_lengths : (a b : List ℕ) → (length a ≡ length b → ⊥) → equal a b ≡ false
 unequal_lengths a b h = not_equal a b (λ e. h (ap length e))
-
-pub unequal_at : (a b : List ℕ) (i : ℕ) → (get_or a i 0 ≡ get_or b i 0 → ⊥) → equal a b ≡ false
-unequal_at a b i h = not_equal a b (λ e. h (ap (λ (l : List ℕ). get_or l i 0) e))

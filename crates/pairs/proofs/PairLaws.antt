@@ -39,8 +39,8 @@ out_of_length f from m =
 -- Pairs that do not differ are equal, and equal ones do not differ.
 alike_both : (p q : Bool) → not (p && q) ≡ false → (p ≡ true) × (q ≡ true)
 alike_both true true e = (refl, refl)
-alike_both true false e = absurd (let z : ◌≡◌ {A = ℕ} 0 1 = cc in omega arith)
-alike_both false q e = absurd (let z : ◌≡◌ {A = ℕ} 0 1 = cc in omega arith)
+alike_both true false e = cc
+alike_both false q e = cc
 
 pub alike : (s b s' b' : List ℕ) → unlike s b s' b' ≡ false → (s ≡ s') × (b ≡ b')
 unfolding unlike

@@ -2,3 +2,4 @@ pub mod Lists
 pub mod Pairs
 pub mod Compared
 pub mod Answer
+pub mod Messages

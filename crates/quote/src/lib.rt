@@ -3,36 +3,36 @@
 
 ghost use Rattle.std.specs.Prelude.{◌≡◌, length};
 ghost use Rattle.hash.specs.Open.{written};
+ghost use Rattle.refusals.specs.Numbers.{number_of};
 ghost use Rattle.check_digits.specs.Quote.{quote as quoteOf};
 ghost use Rattle.quote.specs.Call.{quote_refusal};
 
-// Why a digest is not quoted into so many bytes, or 0.
-fn refusal(width: u16, digest: &[u8], room: usize) -> u8
-    ensures { result ≡ quote_refusal width digest.now room }
+use refusals::Refusal;
+
+// Whether a digest is quoted into so many bytes.
+fn refusal(width: u16, digest: &[u8], room: usize) -> Result<(), Refusal>
+    ensures { number_of result ≡ quote_refusal width digest.now room }
 {
     if !expansion::is_width(width) {
-        return 1;
+        return Err(Refusal::Width);
     }
     let bytes = tail::digest_bytes(width);
     if digest.len() != bytes {
-        return 7;
+        return Err(Refusal::Block);
     }
     if room < 18 {
-        return 6;
+        return Err(Refusal::Output);
     }
-    0
+    Ok(())
 }
 
-// Writes the quote of a digest. Answers the refusal's number, or 0. Refusals 1, 7, 6.
-pub fn quote(width: u16, digest: &[u8], out: &mut [u8]) -> u8
-    ensures value { result ≡ quote_refusal width digest.now (length out.old) }
+// Writes the quote of a digest. Refusals 1, 7, 6.
+pub fn quote(width: u16, digest: &[u8], out: &mut [u8]) -> Result<(), Refusal>
+    ensures value { number_of result ≡ quote_refusal width digest.now (length out.old) }
     ensures out_after { out.new ≡ written (quote_refusal width digest.now (length out.old))
         (quoteOf digest.now) out.old }
 {
-    let refused = refusal(width, digest, out.len());
-    if refused != 0 {
-        return refused;
-    }
+    refusal(width, digest, out.len())?;
     quote_text::write(out, 0, digest);
-    0
+    Ok(())
 }

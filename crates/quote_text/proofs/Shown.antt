@@ -1,14 +1,15 @@
 -- What digits show, two more at a time; digits looked through one by one; a quote in a text.
-use mathlib.Core.Bool.{true, false}
+use mathlib.Core.Bool.{true, ◌&&◌}
 use mathlib.Core.List.{List, [], ◌∷◌, ◌++◌, append_assoc}
 use mathlib.Core.Path.{◌≡◌, refl, sym, ap, ◌∙◌}
 use Prim.Native.Nat.{ℕ, suc, ◌+◌, ◌-◌, ◌*◌, ◌%◌, ◌≤◌, ◌<◌}
 use native.Mathlib.Numerals.{add-one}
 use native.Mathlib.Omega.{arith}
-use borrow.Author.Tests.{lt-ltb, le-ltb, eqb-true}
-use lib.Dec.{eqb}
-use lib.ListN.{length, get_or, take, drop, drop_of_length-le}
-use lib.Seq.{length-take-le, take_at, drop_at, take-suc, drop-cons}
+use borrow.Author.Tests.{eqb-true}
+use lib.Dec.{eqb, ltb}
+use Rattle.std.specs.List.{list_all}
+use lib.ListN.{length, get_or, take, drop}
+use lib.Seq.{length-take-le, take_at, drop_at, take-suc}
 use Rattle.text.specs.Text.{over, hex, digit_of}
 use Rattle.text.proofs.Over.{over_end}
 use Rattle.check_digits.specs.Quote.{shown, number, check, two_digits, quote, digits_below, is_quote}
@@ -42,21 +43,10 @@ two_size : (n : ℕ) → length (two_digits n) ≡ 2
 unfolding two_digits
 two_size n = refl
 
-module _ (k : ℕ) (text : List ℕ) (i : ℕ) where
-  pub below_more : i < length text → digit_of (get_or text i 0) < k → digits_below k (drop i text) ≡ digits_below k (drop (i + 1) text)
-  unfolding digits_below
-  below_more inside digit =
-      ap (digits_below k) (drop-cons text i 0 inside)
-      ∙ rw (lt-ltb (digit_of (get_or text i 0)) k digit) refl
-      ∙ ap (λ (j : ℕ). digits_below k (drop j text)) (sym (add-one i))
-
-  pub below_not : i < length text → k ≤ digit_of (get_or text i 0) → digits_below k (drop i text) ≡ false
-  unfolding digits_below
-  below_not inside other = ap (digits_below k) (drop-cons text i 0 inside) ∙ rw (le-ltb (digit_of (get_or text i 0)) k other) refl
-
-  pub below_all : length text ≤ i → digits_below k (drop i text) ≡ true
-  unfolding digits_below
-  below_all end = ap (digits_below k) (drop_of_length-le text end)
+pub all_below : (k : ℕ) (text : List ℕ) → list_all (λ c. ltb (digit_of c) k) text ≡ digits_below k text
+unfolding digits_below
+all_below k [] = refl
+all_below k (c ∷ text) = ap (λ b. ltb (digit_of c) k && b) (all_below k text)
 
 pub kind_18 : (text : List ℕ) → is_quote text ≡ true → length text ≡ 18
 unfolding is_quote

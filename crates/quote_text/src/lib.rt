@@ -18,11 +18,9 @@ fn remainder(digits: &[u8]) -> u64
     requires { length digits.now ≡ 16 }
     ensures { (result ≡ number digits.now % 97) × (result < 97) }
 {
-    let mut left = 0u64;
-    let mut k = 0;
-    while k < 8 {
+    let mut left = 0;
+    for k in 0..8 {
         left = (256 * left + byte(digits, k)) % 97;
-        k += 1;
     }
     left
 }
@@ -50,7 +48,7 @@ pub fn write(text: &mut [u8], at: usize, digest: &[u8]) -> usize
     ensures { (text.new ≡ over text.old at (quoteOf digest.now)) × (result ≡ at + 18) }
 {
     let end = at + 16;
-    text::hex(text, at, &digest[..8], 48);
+    text::hex(text, at, &digest[..8], b'0');
     let n = check(&text[at..end]);
     two_digits(text, end, n);
     end + 2
@@ -60,35 +58,21 @@ pub fn write(text: &mut [u8], at: usize, digest: &[u8]) -> usize
 fn digits_below(text: &[u8], most: u64) -> bool
     ensures { result ≡ digits_below most text.now }
 {
-    let mut i = 0;
-    while i < text.len() {
-        if most <= text::digit_of(text[i]) {
-            return false;
-        }
-        i += 1;
-    }
-    true
+    text.iter().all(|c| text::digit_of(*c) < most)
 }
 
 // Whether a text is of the kind of a quote: 18 characters, 16 hexadecimal digits in lower case and 2 decimal ones.
+#[tactic(auto, unfolding(check_digits::specs::Quote::is_quote))]
 pub fn is_quote(text: &[u8]) -> bool
     ensures { result ≡ is_quote text.now }
 {
-    if text.len() != 18 {
-        return false;
-    }
-    if !digits_below(&text[..16], 16) {
-        return false;
-    }
-    digits_below(&text[16..], 10)
+    text.len() == 18 && digits_below(&text[..16], 16) && digits_below(&text[16..], 10)
 }
 
 // Whether a text is a right quote: of the kind, and with the check digits of its number.
+#[tactic(auto, using(crate::proofs::Shown::kind_18), unfolding(check_digits::specs::Quote::is_right))]
 pub fn is_right(text: &[u8]) -> bool
     ensures { result ≡ is_right text.now }
 {
-    if !is_quote(text) {
-        return false;
-    }
-    10 * text::digit_of(text[16]) + text::digit_of(text[17]) == check(&text[..16])
+    is_quote(text) && 10 * text::digit_of(text[16]) + text::digit_of(text[17]) == check(&text[..16])
 }

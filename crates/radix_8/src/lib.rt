@@ -37,10 +37,8 @@ fn spread(y: &mut [u16], at: usize, gap: usize, v: [u16; 4])
     requires { (at + gap * 3 < length y.old) × (0 < gap) }
     ensures { Spread at gap v y.old y.new }
 {
-    let mut j = 0;
-    while j < 4 {
+    for j in 0..4 {
         y[at + gap * j] = v[j];
-        j += 1;
     }
 }
 
@@ -62,10 +60,10 @@ fn place(block: &[u8], ends: &[u16], y: &mut [u16], m: usize, q: usize)
     ensures placed { Placed m block.now ends.now y.new q }
     ensures by_index { (k p : ℕ) → p < q → get_or y.new (k * m + p) 0 ≡ get_or y.old (k * m + p) 0 }
 {
-    let a = block[q] as u16;
-    let b = block[m + q] as u16;
-    let c = block[2 * m + q] as u16;
-    let d = block[3 * m + q] as u16;
+    let a = u16::from(block[q]);
+    let b = u16::from(block[m + q]);
+    let c = u16::from(block[2 * m + q]);
+    let d = u16::from(block[3 * m + q]);
     let e = ends[q];
     spread(y, q, 2 * m, even_values(a, b, c, d + e));
     spread(y, m + q, 2 * m, odd_values(a, b, c, d + 256 * e));
@@ -78,9 +76,7 @@ pub fn begin(block: &[u8], ends: &[u16], y: &mut [u16], m: usize)
     ensures level { Level (held m block.now ends.now) 32 m 8 (λ k q. k * m + q) y.new }
     ensures within { Within (8 * m) 2570 45000 y.new }
 {
-    let mut q = 0;
-    while q < m {
+    for q in 0..m {
         place(block, ends, y, m, q);
-        q += 1;
     }
 }

@@ -1,17 +1,19 @@
 -- Laws of `read_at`.
+use Rattle.std.proofs.lemmas.Bool.Decides.{nat_tests}
+use Rattle.std.proofs.lemmas.List.{get_or-drop, take_all, length-drop}
 use mathlib.Core.Bool.{Bool, true, false, cond}
 use mathlib.Core.List.{List}
 use mathlib.Core.Path.{◌≡◌, refl, sym, ap, ◌∙◌, subst}
 use Prim.Native.Nat.{ℕ, ◌+◌, ◌*◌, ◌≤◌, ◌<◌}
 use native.Mathlib.Omega.{arith}
-use borrow.Author.Tests.{le-leb, lt-leb, leb-true, ne_eqb}
+use borrow.Author.Tests.{le-leb, leb-true}
 use lib.Dec.{leb, eqb}
 use lib.ListN.{length, get_or}
 use Rattle.reader.specs.declared.Command.{Command}
 use Rattle.reader.specs.declared.Command.TheVariants.{Open, Full, Part, Take, Stop}
 use Rattle.reader.specs.declared.Reading.{Reading}
 use Rattle.reader.specs.declared.Reading.TheVariants.{Found, Refused}
-use Rattle.reader.specs.Reading.{whole, read_by, read_at, Inside}
+use Rattle.reader.specs.Reading.{whole, read_at, Inside}
 
 -- The bytes of a command.
 abbrev pub size_of : Command → ℕ
@@ -28,35 +30,14 @@ sized (Part count place) = omega arith
 sized Take = omega arith
 sized Stop = omega arith
 
+-- What the code reads of the bytes from a place on, and the tests that `read_at` makes of them.
+pub ruleset places = (nat_tests, get_or-drop, take_all, length-drop)
+
 module _ (tape : List ℕ) (at : ℕ) where
   -- No byte is left.
   pub read_none : length tape ≤ at → read_at tape at ≡ Refused 11 (length tape)
   unfolding read_at
   read_none none = simp (le-leb (length tape) at none)
-
-  -- The answer goes by the byte.
-  pub read_byte : (byte : ℕ) → at < length tape → get_or tape at 0 ≡ byte → read_at tape at ≡ read_by tape at byte
-  unfolding read_at
-  read_byte byte here e = simp (lt-leb (length tape) at here) (ap (read_by tape at) e)
-
-  pub read_other :
-      at < length tape → (get_or tape at 0 ≡ 1 → ⊥) → (get_or tape at 0 ≡ 2 → ⊥) → (get_or tape at 0 ≡ 3 → ⊥) → (get_or tape at 0 ≡ 4 → ⊥)
-      → (get_or tape at 0 ≡ 5 → ⊥) → read_at tape at ≡ Refused 10 at
-  unfolding read_at
-  read_other here n1 n2 n3 n4 n5 =
-      let byte = get_or tape at 0 in
-      simp (lt-leb (length tape) at here, ne_eqb byte 1 n1, ne_eqb byte 2 n2, ne_eqb byte 3 n3, ne_eqb byte 4 n4, ne_eqb byte 5 n5)
-
-  -- A command by its byte, whole or cut off.
-  pub read_found :
-      (byte size : ℕ) (command : Command) → at < length tape → get_or tape at 0 ≡ byte → read_by tape at byte ≡ whole tape at size command
-      → at + size ≤ length tape → Found command (at + size) ≡ read_at tape at
-  read_found byte size command here e by fits = sym (read_byte byte here e ∙ by ∙ simp (le-leb (at + size) (length tape) fits))
-
-  pub read_short :
-      (byte size : ℕ) (command : Command) → at < length tape → get_or tape at 0 ≡ byte → read_by tape at byte ≡ whole tape at size command
-      → length tape < at + size → Refused 11 at ≡ read_at tape at
-  read_short byte size command here e by short = sym (read_byte byte here e ∙ by ∙ simp (lt-leb (at + size) (length tape) short))
 
   -- A command found lies within the tape, with its 32 bytes, and the next place is after its own bytes.
   Within : Reading → Type 0
@@ -67,8 +48,7 @@ module _ (tape : List ℕ) (at : ℕ) where
   refused_within : (number place : ℕ) → Within (Refused number place)
   unfolding Within
   refused_within number place command next e =
-      let no : ◌≡◌ {A = ℕ} 0 1 = cc in
-      absurd (omega arith)
+      cc
 
   cond_within : (b : Bool) (x y : Reading) → Within x → Within y → Within (cond b x y)
   cond_within true x y p q = p

@@ -3,15 +3,23 @@
 
 use hash::Hash;
 use hmac::Hmac;
+use refusals::Refusal;
 use std::io;
+
+fn number<T: Copy>(answer: Result<T, Refusal>) -> u8 {
+    match answer {
+        Ok(_) => 0,
+        Err(refusal) => refusal.number(),
+    }
+}
 
 fn answers(rt: &impl Print, name: &str, hash: Hash) -> io::Result<()> {
     let piece = [0u8; 1];
     let mut digest = [0u8; 64];
     let mut form = [0u8; 266];
-    let fed = hash.feed(&piece, 0).refusal;
-    let taken = hash.take(&mut digest).refusal;
-    let stored = hash.store(&mut form).refusal;
+    let fed = number(hash.feed(&piece, 0).result);
+    let taken = number(hash.take(&mut digest).result);
+    let stored = number(hash.store(&mut form).result);
     println!(rt; "{name} {fed} {taken} {stored}")
 }
 
@@ -20,10 +28,10 @@ fn keyed(rt: &impl Print, name: &str, inner: Hash, outer: Hash) -> io::Result<()
     let mut tag = [0u8; 64];
     let mut form = [0u8; 532];
     let hmac = Hmac { inner, outer };
-    let fed = hmac.feed(&piece, 0).refusal;
-    let taken = hmac.take(&mut tag).refusal;
-    let checked = hmac.check(&tag).refusal;
-    let stored = hmac.store(&mut form).refusal;
+    let fed = number(hmac.feed(&piece, 0).result);
+    let taken = number(hmac.take(&mut tag).result);
+    let checked = number(hmac.check(&tag).result);
+    let stored = number(hmac.store(&mut form).result);
     println!(rt; "{name} {fed} {taken} {checked} {stored}")
 }
 

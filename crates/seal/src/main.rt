@@ -29,14 +29,9 @@ fn seal<R: Read, W: Write>(input: &mut R, output: &mut W) -> Result<(), Failure>
     ensures { OnOk result (IfSome (R.remaining input.old) (λ tape. Appends (W.contents output.old) (W.contents output.new) (listing tape))) }
 {
     let mut tape = room();
-    let size = match seal_input::read_tape(input, &mut tape) {
-        Ok(size) => size,
-        Err(error) => return Err(Failure::Input(error)),
-    };
-    match seal_output::print(output, &tape[..size]) {
-        Ok(()) => Ok(()),
-        Err(error) => Err(Failure::Output(error)),
-    }
+    let size = seal_input::read_tape(input, &mut tape).map_err(Failure::Input)?;
+    seal_output::print(output, &tape[..size]).map_err(Failure::Output)?;
+    Ok(())
 }
 
 // Says what failed and why, as `seal: standard input: Is a directory`.

@@ -14,6 +14,7 @@ pub fn read_tape<R: Read>(input: &mut R, tape: &mut [u8]) -> io::Result<usize>
     ensures bytes { IfOk result (λ size. Consumes (R.remaining input.old) (R.remaining input.new) (take size tape.new)) }
     ensures end { IfOk result (λ size. size < length tape.new → IsAtEnd (R.remaining input.new)) }
 {
+    // A `while`, as each turn goes on by what its read gave, and not by one.
     let mut size = 0;
     while size < tape.len() {
         let more = read_some(input, &mut tape[size..])?;

@@ -29,6 +29,7 @@ fn print_lines<W: Write>(out: &mut W, tape: &[u8], text: &mut [u8]) -> io::Resul
     requires { (length tape.now ≤ 65537) × (length text.old ≡ 192) }
     ensures { OnOk result (Appends (W.contents out.old) (W.contents out.new) (listing tape.now)) }
 {
+    // A `loop`, as the last line tells the end: a `for` over the count would still keep the place by hand, and need an end of its own to run past.
     let mut at = 0;
     let mut count: u32 = 0;
     loop {

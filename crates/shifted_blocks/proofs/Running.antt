@@ -7,8 +7,8 @@ use native.Mathlib.Nat.{add-zero, zero-add, add-suc, mul-mod_left, mul-zero, sub
 use native.Mathlib.Decide.{dec_lt}
 use native.Mathlib.Omega.{arith}
 use borrow.Rule.Slice.PartMut.{put_mid, post_of}
-use lib.ListN.{length, get_or, take, drop, length-append, length-take, get_or-append, get_or-eq_default}
-use lib.Seq.{take_all, take_at, length-take-le, get_or-take, get_or-drop, drop-drop, get_or-append-add}
+use lib.ListN.{length, get_or, take, drop, length-append, length-take, length-drop, get_or-append, get_or-eq_default}
+use lib.Seq.{take_all, take_at, length-take-le, get_or-take, get_or-drop, drop-drop, drop_at, get_or-append-add}
 use Rattle.simd.specs.Basic.{Family, small, large, family_of, block_bytes, state_words, table}
 use Rattle.simd.specs.Steps.{compression}
 use Rattle.simd.specs.Message.{bits_of}
@@ -169,13 +169,30 @@ module _ (f : Family) (s : List ℕ) (words : length s ≡ state_words f) (scale
         room = room;
       }
 
-  pub running_all : (at : ℕ) (state buffer : List ℕ) (held : ℕ) → Running f s scale carry src at state buffer held → length src ≤ at
-      → (state ≡ padded 32 (absorbed f s (table (length src) (shifted scale carry src)) (length src / block_bytes f)))
-      × (held ≡ carry_at scale carry src (length src))
-  running_all at state buffer held r past =
-      let end : at ≡ length src = omega (arith, r.within) in (
-        r.came ∙ ap (λ (n : ℕ). padded 32 (absorbed f s (table (length src) (shifted scale carry src)) (n / block_bytes f))) end,
-        r.carried ∙ ap (carry_at scale carry src) end,
+  -- One part more off the front of what is left.
+  pub running_part : (state buffer : List ℕ) (held : ℕ) (rest part rest' state' buffer' : List ℕ) (held' : ℕ)
+      → rest ≡ drop (length src - length rest) src → rest ≡ part ++ rest' → length part ≡ min 1024 (length rest)
+      → Running f s scale carry src (length src - length rest) state buffer held
+      → state' ≡ padded 32 (absorbed f (take (state_words f) state) (table (length part) (shifted scale held part)) (length part / block_bytes f))
+      → held' ≡ carry_at scale held part (length part)
+      → length buffer' ≡ 1024
+      → (rest' ≡ drop (length src - length rest') src) × Running f s scale carry src (length src - length rest') state' buffer' held'
+  running_part state buffer held rest part rest' state' buffer' held' tail split long r came carried room =
+      let at = length src - length rest in
+      let end = length src - length rest' in
+      let sizes : length rest ≡ length part + length rest' = ap length split ∙ length-append part rest' in
+      let within : length rest ≤ length src = omega (arith, ap length tail, length-drop at src) in
+      let ends : end ≡ at + min (length src - at) 1024 = omega (arith, sizes, within, long) in
+      let n : length part ≡ end - at = omega (arith, sizes, within) in
+      let first : part ≡ take (end - at) (drop at src) = sym (take_at part rest' (end - at) n) ∙ ap (take (end - at)) (sym split ∙ tail) in
+      let place : at + length part ≡ end = omega (arith, sizes, within) in
+      let last : rest' ≡ drop end src =
+      sym (drop_at part rest' (length part) refl) ∙ ap (drop (length part)) (sym split ∙ tail) ∙ drop-drop (length part) at src
+      ∙ ap (λ (k : ℕ). drop k src) place in (
+        last,
+        running_more at state buffer held end state' buffer' held' r ends
+            (came ∙ λ i. padded 32 (absorbed f (take (state_words f) state) (table (n i) (shifted scale held (first i))) (n i / block_bytes f)))
+            (carried ∙ λ i. carry_at scale held (first i) (n i)) room,
       )
 
 -- Straight from the source.

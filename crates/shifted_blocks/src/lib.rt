@@ -2,18 +2,13 @@
 // another goes through a buffer of several blocks.
 #![tactic(auto)]
 
-ghost use Rattle.std.specs.Prelude.{false, ◌≡◌, ◌++◌, min, ◌+◌, ◌-◌, ◌/◌, ◌%◌, ◌≤◌, length, take, drop};
+ghost use Rattle.std.specs.Prelude.{false, ◌≡◌, ◌++◌, ◌+◌, ◌-◌, ◌/◌, ◌%◌, ◌≤◌, length, take, drop};
 ghost use Rattle.simd.specs.Basic.{family_of, block_bytes, state_words, table};
 ghost use Rattle.simd.specs.Steps.{compression};
 ghost use Rattle.iteration.specs.Blocks.{absorbed};
 ghost use Rattle.bits.specs.Zero.{padded};
 ghost use Rattle.bits.specs.Shift.{carry_at, shifted, with_shifted};
 ghost use Rattle.shifted_blocks.specs.Source.{Absorbed, Completing};
-
-// Room for the shifted bytes of several blocks.
-fn room() -> [u8; 1024] {
-    [0u8; 1024]
-}
 
 // Compresses the blocks of a shifted part that the buffer has room for, and gives the carry after it.
 fn absorb_part(
@@ -33,31 +28,16 @@ fn absorb_part(
     last
 }
 
-// The end of the next part of a source, which is at most 1,024 bytes long.
-fn part_end(at: usize, length: usize) -> usize
-    requires { at ≤ length }
-    ensures { result ≡ at + min (length - at) 1024 }
-{
-    if length - at <= 1024 {
-        length
-    } else {
-        at + 1024
-    }
-}
-
 // Compresses a shifted source of whole blocks, a part at a time, and gives the carry after it.
 fn absorb_parts(width: u16, state: &mut [u32; 32], scale: u16, carry: u8, src: &[u8]) -> u8
     requires { (state.old ≡ padded 32 (take (state_words (family_of width)) state.old)) × (scale ≤ 256)
         × (length src.now % block_bytes (family_of width) ≡ 0) }
     ensures { Absorbed width state.old scale carry src.now state.new result }
 {
-    let mut buffer = room();
+    let mut buffer = [0u8; 1024];
     let mut held = carry;
-    let mut at = 0;
-    while at < src.len() {
-        let end = part_end(at, src.len());
-        held = absorb_part(width, state, scale, held, &src[at..end], &mut buffer);
-        at = end;
+    for part in src.chunks(1024) {
+        held = absorb_part(width, state, scale, held, part, &mut buffer);
     }
     held
 }
@@ -99,7 +79,7 @@ pub fn absorb_whole_blocks(
 {
     let end = src.len();
     let last = absorb_shifted(width, state, scale, carry, &src[0..whole]);
-    bits::blank(tail);
+    tail.fill(0);
     bits::write_shifted(tail, 0, scale, last, &src[whole..end]);
 }
 

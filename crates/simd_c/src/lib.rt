@@ -29,12 +29,14 @@ ghost use Rattle.simd_c_hmac.specs.Calls.{opened_hmac, open_call as openKeyed, f
 ghost use Rattle.simd_c_hmac.specs.Calls.{check_call, yes};
 ghost use Rattle.simd_c_answers.specs.Calls.{refusal_of, verdict_after, block_after, run_within, placed};
 
+use refusals::number_of;
+
 #[unsafe(no_mangle)]
 pub extern "C" fn simd_open(width: u16, form: &mut [u8]) -> u8
     ensures value { result ≡ open_call width form.old }
     ensures form_after { form.new ≡ written (open_call width form.old) (form_of (opened_hash width)) form.old }
 {
-    simd_c_forms::open_form(width, form)
+    number_of(simd_c_forms::open_form(width, form))
 }
 
 #[unsafe(no_mangle)]
@@ -45,7 +47,7 @@ pub extern "C" fn simd_feed(form: &mut [u8], piece: &[u8], bits: u64, blocks: &m
     ensures blocks_after { blocks.new ≡ stored (feed_call form.old piece.now bits)
         (fed_from form.old piece.now bits).blocks blocks.old }
 {
-    simd_c_forms::feed_form(form, piece, bits, blocks)
+    number_of(simd_c_forms::feed_form(form, piece, bits, blocks))
 }
 
 #[unsafe(no_mangle)]
@@ -54,7 +56,7 @@ pub extern "C" fn simd_restore(given: &[u8], form: &mut [u8]) -> u8
     ensures form_after { form.new ≡ written (restore_call given.now form.old)
         (form_of (restore_answer given.now).hash) form.old }
 {
-    simd_c_forms::restore_form(given, form)
+    number_of(simd_c_forms::restore_form(given, form))
 }
 
 #[unsafe(no_mangle)]
@@ -65,7 +67,7 @@ pub extern "C" fn simd_take(form: &[u8], out: &mut [u8], blocks: &mut u64) -> u8
     ensures blocks_after { blocks.new ≡ stored (take_call form.now out.old)
         (take_answer (restore_answer form.now).hash out.old).blocks blocks.old }
 {
-    simd_c_forms::take_form(form, out, blocks)
+    number_of(simd_c_forms::take_form(form, out, blocks))
 }
 
 #[unsafe(no_mangle)]
@@ -74,7 +76,7 @@ pub extern "C" fn simd_hash(width: u16, message: &[u8], bits: u64, out: &mut [u8
     ensures out_after { out.new ≡ written (digest_refusal width message.now bits (length out.old))
         (digest width (messageOf message.now bits)) out.old }
 {
-    digest::digest(width, message, bits as usize, out)
+    number_of(digest::digest(width, message, bits as usize, out))
 }
 
 #[unsafe(no_mangle)]
@@ -97,7 +99,7 @@ pub extern "C" fn simd_index(
         ≡ stored (index_refusal width message.now bits (length index.old) (length out.old))
         (compressions (family_of width) bits) blocks.old }
 {
-    index::index(width, message, bits as usize, index, out, blocks)
+    number_of(index::index(width, message, bits as usize, index, out, blocks))
 }
 
 #[unsafe(no_mangle)]
@@ -123,7 +125,7 @@ pub extern "C" fn simd_reindex(
         ≡ stored (reindex_refusal width message.now bits old.now block (length index.old) (length out.old))
         (corrected_compressions (family_of width) bits block) blocks.old }
 {
-    index::reindex(
+    number_of(index::reindex(
         width,
         message,
         bits as usize,
@@ -132,7 +134,7 @@ pub extern "C" fn simd_reindex(
         index,
         out,
         blocks,
-    )
+    ))
 }
 
 #[unsafe(no_mangle)]
@@ -141,7 +143,7 @@ pub extern "C" fn simd_hmac_open(width: u16, key: &[u8], form: &mut [u8]) -> u8
     ensures form_after { form.new ≡ written (openKeyed width key.now form.old)
         (keyed_form (opened_hmac width key.now)) form.old }
 {
-    simd_c_hmac::open_form(width, key, form)
+    number_of(simd_c_hmac::open_form(width, key, form))
 }
 
 #[unsafe(no_mangle)]
@@ -152,7 +154,7 @@ pub extern "C" fn simd_hmac_feed(form: &mut [u8], piece: &[u8], bits: u64, block
     ensures blocks_after { blocks.new ≡ stored (feedKeyed form.old piece.now bits)
         (fedKeyed form.old piece.now bits).blocks blocks.old }
 {
-    simd_c_hmac::feed_form(form, piece, bits, blocks)
+    number_of(simd_c_hmac::feed_form(form, piece, bits, blocks))
 }
 
 #[unsafe(no_mangle)]
@@ -163,7 +165,7 @@ pub extern "C" fn simd_hmac_take(form: &[u8], tag: &mut [u8], blocks: &mut u64) 
     ensures blocks_after { blocks.new ≡ stored (takeKeyed form.now tag.old)
         (takeAnswerKeyed (restoreKeyed form.now).hmac tag.old).blocks blocks.old }
 {
-    simd_c_hmac::take_form(form, tag, blocks)
+    number_of(simd_c_hmac::take_form(form, tag, blocks))
 }
 
 #[unsafe(no_mangle)]
@@ -172,7 +174,7 @@ pub extern "C" fn simd_hmac_check(form: &[u8], tag: &[u8], right: &mut u64) -> u
     ensures right_after { right.new ≡ stored (check_call form.now tag.now)
         (yes (check_answer (restoreKeyed form.now).hmac tag.now).right) right.old }
 {
-    simd_c_hmac::check_form(form, tag, right)
+    number_of(simd_c_hmac::check_form(form, tag, right))
 }
 
 #[unsafe(no_mangle)]
@@ -182,7 +184,7 @@ pub extern "C" fn simd_hmac(width: u16, key: &[u8], message: &[u8], bits: u64, t
         ≡ written (tag_refusal width key.now message.now bits (length tag.old))
         (tagOfMessage width key.now (messageOf message.now bits)) tag.old }
 {
-    hmac_tag::tag(width, key, message, bits as usize, tag)
+    number_of(hmac_tag::tag(width, key, message, bits as usize, tag))
 }
 
 #[unsafe(no_mangle)]
@@ -190,7 +192,7 @@ pub extern "C" fn simd_expand(width: u16, last: bool, block: &[u8], out: &mut [u
     ensures value { result ≡ expand_refusal width (length block.now) (length out.old) }
     ensures out_after { out.new ≡ expand_output width last block.now out.old }
 {
-    expansion::expand(width, last, block, out)
+    number_of(expansion::expand(width, last, block, out))
 }
 
 #[unsafe(no_mangle)]
@@ -204,7 +206,7 @@ pub extern "C" fn simd_steps(
     ensures value { result ≡ steps_refusal width (length state.now) (length block.now) (length out.old) }
     ensures out_after { out.new ≡ steps_output forward width last state.now block.now out.old }
 {
-    stepping::run_steps(width, last, state, block, out)
+    number_of(stepping::run_steps(width, last, state, block, out))
 }
 
 #[unsafe(no_mangle)]
@@ -218,7 +220,7 @@ pub extern "C" fn simd_unsteps(
     ensures value { result ≡ steps_refusal width (length state.now) (length block.now) (length out.old) }
     ensures out_after { out.new ≡ steps_output backward width last state.now block.now out.old }
 {
-    stepping::run_unsteps(width, last, state, block, out)
+    number_of(stepping::run_unsteps(width, last, state, block, out))
 }
 
 #[unsafe(no_mangle)]
@@ -255,7 +257,7 @@ pub extern "C" fn simd_page_entry(number: u64, width: u16, digest: &[u8], out: &
     ensures out_after { out.new ≡ written (print_refusal number width digest.now (length out.old))
         (entry_lines number width digest.now) out.old }
 {
-    page::entry(number, width, digest, out)
+    number_of(page::entry(number, width, digest, out))
 }
 
 #[unsafe(no_mangle)]
@@ -264,7 +266,7 @@ pub extern "C" fn simd_quote(width: u16, digest: &[u8], out: &mut [u8]) -> u8
     ensures out_after { out.new ≡ written (quote_refusal width digest.now (length out.old))
         (quoteOf digest.now) out.old }
 {
-    quote::quote(width, digest, out)
+    number_of(quote::quote(width, digest, out))
 }
 
 #[unsafe(no_mangle)]
@@ -272,5 +274,6 @@ pub extern "C" fn simd_quote_check(quote: &[u8], right: &mut u64) -> u8
     ensures value { result ≡ 0 }
     ensures right_after { right.new ≡ cond (is_right quote.now) 1 0 }
 {
-    simd_c_answers::check_quote(quote, right)
+    simd_c_answers::check_quote(quote, right);
+    0
 }

@@ -46,7 +46,8 @@ pub fn compare_messages(
     }
 }
 
-// A tape run. A refused one keeps the digests before the refused command, and its count and place are told.
+// A tape run. A refused one keeps the digests before the refused command, and its count and place are told. The run closes with the number
+// that the reader gave (docs/DECISIONS.md, "The nine named forms"), and C has it as it is.
 pub fn run_tape(tape: &[u8], out: &mut [u8], count: &mut u64, place: &mut u64) -> u8
     ensures value { result ≡ (ran_of (run_within tape.now out.old)).refusal }
     ensures out_after { out.new ≡ over out.old 0 (output (run_within tape.now out.old).entries) }
@@ -64,14 +65,8 @@ pub fn run_tape(tape: &[u8], out: &mut [u8], count: &mut u64, place: &mut u64) -
 }
 
 // A quote checked: 1 where it is right, else 0. Nothing is refused.
-pub fn check_quote(quote: &[u8], right: &mut u64) -> u8
-    ensures value { result ≡ 0 }
-    ensures right_after { right.new ≡ cond (is_right quote.now) 1 0 }
+pub fn check_quote(quote: &[u8], right: &mut u64)
+    ensures { right.new ≡ cond (is_right quote.now) 1 0 }
 {
-    if quote_text::is_right(quote) {
-        *right = 1;
-    } else {
-        *right = 0;
-    }
-    0
+    *right = u64::from(quote_text::is_right(quote));
 }

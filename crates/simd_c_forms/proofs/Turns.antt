@@ -2,12 +2,16 @@
 -- is anything written. Said of any kind of hash. What the definitions give is a, b for refusals, h for a hash and v for a number; what the code
 -- has is r, s, g and u.
 use mathlib.Core.List.{List}
-use mathlib.Core.Path.{◌≡◌, sym, ap, ◌∙◌, subst}
+use mathlib.Core.Path.{◌≡◌, refl, sym, ap, ◌∙◌}
 use Prim.Native.Nat.{ℕ}
-use Rattle.hash.specs.Open.{first, written}
+use Rattle.std.specs.Prelude.{Ok, Err}
+use Rattle.refusals.specs.declared.Refusal.{Refusal}
+use Rattle.refusals.specs.Numbers.{number}
+use Rattle.refusals.proofs.Numbers.{refused_not_0}
+use Rattle.hash.specs.Open.{Opened, first, written, opened_by}
 use Rattle.hash.proofs.Refusing.{first_refused, first_accepted, written_refused, stored_refused, stored_accepted}
-use Rattle.hash.specs.Form.{form_of}
-use Rattle.hash.specs.declared.Opened.{Opened}
+use Rattle.hash.specs.Form.{Stored, form_of, store_answer, store_refusal}
+use Rattle.hash.specs.declared.Hash.{Hash}
 use Rattle.simd_c_forms.specs.Calls.{stored, opened_call}
 
 -- A call that answers n, no 0, leaves bytes and number as they were; one that answers 0 puts the new number.
@@ -101,9 +105,19 @@ module _ {H : Type 0} (refusal : H → ℕ) (bytes : H → List ℕ) (form : Lis
       pub all_done : n ≡ 0 → {u : ℕ} → u ≡ v → Feeds 0 left u
       all_done zero same = let e = asked ∙ last in (sym zero ∙ e, (filled, puts_number e zero old same))
 
--- An answer that is stored, told of the answer that it equals.
-pub stored_as : {o p : Opened} → o ≡ p → (out last : List ℕ) (r : ℕ)
-    → (r ≡ opened_call o out) × (last ≡ written (opened_call o out) (form_of o.hash) out)
-    → (r ≡ opened_call p out) × (last ≡ written (opened_call p out) (form_of p.hash) out)
-stored_as same out last r told =
-    subst (λ (o : Opened). (r ≡ opened_call o out) × (last ≡ written (opened_call o out) (form_of o.hash) out)) same told
+-- An answer with a hash: refused, or stored.
+abbrev Stores : Opened → List ℕ → ℕ → List ℕ → Type 0
+Stores o out n left = (n ≡ opened_call o out) × (left ≡ written (opened_call o out) (form_of o.hash) out)
+
+module _ {o : Opened} (out : List ℕ) where
+  pub opened_refused : (r : Refusal) → opened_by (Err r) ≡ o → Stores o out (number r) out
+  unfolding store_answer
+  opened_refused r e =
+      step_refused (λ (h : Hash). store_refusal h out) form_of out o.hash (ap (λ (o : Opened). o.refusal) e) (refused_not_0 r (number r) refl)
+
+  pub opened_stored : {h : Hash} → opened_by (Ok h) ≡ o → {n : ℕ} {left : List ℕ} → record { hash = h; refusal = n } ≡ store_answer h out
+      → left ≡ written (store_refusal h out) (form_of h) out → Stores o out n left
+  unfolding store_answer
+  opened_stored e asked wrote =
+      then_written (λ (h : Hash). store_refusal h out) form_of out o.hash (ap (λ (o : Opened). o.refusal) e) refl (ap (λ (o : Opened). o.hash) e)
+      (ap (λ (s : Stored). s.refusal) asked) wrote

@@ -1,10 +1,8 @@
 -- What the calls that hold a stored form answer, and what they leave behind in what they were lent.
 use Rattle.std.specs.Prelude.{List, ℕ}
-use Rattle.hash.specs.Open.{first, open_answer, feed_answer, take_answer}
+use Rattle.hash.specs.Open.{Opened, Fed, first, open_answer, feed_answer, take_answer}
 use Rattle.hash.specs.Form.{store_answer, restore_answer}
 use Rattle.hash.specs.declared.Hash.{Hash}
-use Rattle.hash.specs.declared.Opened.{Opened}
-use Rattle.hash.specs.declared.Fed.{Fed}
 unfoldable pub use Rattle.hash.specs.Open.{stored}
 
 -- An answer with a hash, which is then stored.

@@ -1,10 +1,9 @@
 -- What the calls that hold the stored form of a keyed hash answer, and what they leave behind in what they were lent.
 use Rattle.std.specs.Prelude.{Bool, cond, List, ℕ}
 use Rattle.hash.specs.Open.{first}
-use Rattle.hmac.specs.Keyed.{open_answer, feed_answer, take_answer, check_answer}
+use Rattle.hmac.specs.Keyed.{Fed, open_answer, feed_answer, take_answer, check_answer}
 use Rattle.hmac.specs.Form.{store_answer, restore_answer}
 use Rattle.hmac.specs.declared.Hmac.{Hmac}
-use Rattle.hmac.specs.declared.Fed.{Fed}
 
 -- simd_hmac_open: the keyed hash of no message, stored.
 unfoldable pub opened_hmac : ℕ → List ℕ → Hmac

@@ -16,10 +16,9 @@ use Rattle.hash.proofs.Feeding.{bits_message}
 use Rattle.hash.proofs.Refusing.{passed, accepted}
 use Rattle.hash_theorems.proofs.Held.{long}
 use Rattle.hash_theorems.proofs.Theorems.{restored_width}
-use Rattle.hmac.specs.Keyed.{legal, width, feed_refusal, feed_answer}
+use Rattle.hmac.specs.Keyed.{Opened, legal, width, feed_refusal, feed_answer}
 use Rattle.hmac.specs.Form.{keyed_form, front, back, current_keyed, hmac_of, store_refusal, store_answer, restore_answer}
 use Rattle.hmac.specs.declared.Hmac.{Hmac}
-use Rattle.hmac.specs.declared.Opened.{Opened}
 use Rattle.hmac_theorems.proofs.Tags.{further, further_legal, fed_once}
 use Rattle.hmac_theorems.proofs.Forms.{Values, front_fits, back_fits, refusals, restored_is, restored_stored}
 use Rattle.hmac_theorems.proofs.Ignored.{fed_refusal}

@@ -21,11 +21,9 @@ use Rattle.hash_theorems.proofs.Advanced.{advanced_bits}
 use Rattle.hash_theorems.proofs.Cutting.{Piece, joined, Wholes, bits_joined, Answer, in_turn, Feeding, all_joined}
 use Rattle.hmac_key.specs.Hmac.{ipad, opad, masked, key_block, tag}
 use Rattle.hmac_parts.specs.Keyed.{begun}
-use Rattle.hmac.specs.Keyed.{legal, width, opening, feed_answer, tag_of, take_refusal, take_answer, check_answer}
+use Rattle.hmac.specs.Keyed.{Opened, Fed, legal, width, opening, feed_answer, tag_of, take_refusal, take_answer, check_answer}
 use Rattle.hmac.specs.Form.{keyed_form, store_refusal, store_answer, restore_answer}
 use Rattle.hmac.specs.declared.Hmac.{Hmac}
-use Rattle.hmac.specs.declared.Opened.{Opened}
-use Rattle.hmac.specs.declared.Fed.{Fed}
 use Rattle.hmac_theorems.proofs.Tags.{further, further_legal, further_none, further_joins, fed_once, feed_all_lem}
 use Rattle.hmac_theorems.proofs.Tags.{open_known, pad_bits, start_bits, start_family, start_legal, tagging}
 use Rattle.hmac_theorems.proofs.Forms.{Values, keyed_length, stored_restored}

@@ -11,8 +11,7 @@ use Rattle.simd.specs.Constants.{start}
 use Rattle.laws.proofs.Bits.{Bits}
 use Rattle.tail.proofs.Sizes.{words_within}
 use Rattle.bits.proofs.Zeros.{get_d_padded}
-use Rattle.hash.specs.Open.{holding, legal, open_answer}
-use Rattle.hash.specs.declared.Opened.{Opened}
+use Rattle.hash.specs.Open.{Opened, holding, legal, open_answer}
 use Rattle.hash.proofs.Holding.{Value}
 use Rattle.hash_theorems.proofs.Held.{held_legal}
 use Rattle.hash.proofs.Feeding.{at_widths, start_length}

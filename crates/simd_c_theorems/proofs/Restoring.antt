@@ -2,7 +2,7 @@
 -- in its place.
 use mathlib.Core.Bool.{true}
 use mathlib.Core.List.{List, ◌++◌}
-use mathlib.Core.Path.{◌≡◌, refl, sym, ap, ◌∙◌}
+use mathlib.Core.Path.{◌≡◌, sym, ap, ◌∙◌}
 use Prim.Native.Nat.{ℕ, ◌<◌, ◌≤◌}
 use native.Mathlib.Omega.{arith}
 use borrow.Author.Tests.{le-leb, lt-leb}
@@ -60,7 +60,7 @@ module _ (form : List ℕ) (fits : (i : ℕ) → get_or form i 0 < 256) (none : 
   old_not_fed old piece bits not-refused =
       let m = message piece bits in
       let piece_none = sym (fed_refusal (feed_refusal h piece bits) h m) ∙ not-refused in
-      let piece_facts = (feed_facts h piece bits (feed_refusal h piece bits) refl piece_none).whole in
+      let piece_facts = (feed_facts h piece bits (sym piece_none)).whole in
       let next = fed_whole h piece bits good piece_facts.within piece_facts.short in
       let next_legal = advanced_legal h (long value.sized) m (bits_message piece bits) good in
       rw (none, next, next_legal, lt-leb (form_bytes (family (advanced h m))) (length form) (no_room old m))

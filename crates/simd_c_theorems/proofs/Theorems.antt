@@ -14,12 +14,10 @@ use Rattle.simd.specs.Hash.{chain, digest, compressions}
 use Rattle.laws.proofs.Bits.{Bits}
 use Rattle.tail.proofs.Sizes.{words_within, chain_length}
 use Rattle.bits.proofs.Zeros.{get_d_padded}
-use Rattle.hash.specs.Open.{limit, family, legal, reached, pending, holding, full_blocks, advanced, digest_of, written, first}
+use Rattle.hash.specs.Open.{Opened, Fed, limit, family, legal, reached, pending, holding, full_blocks, advanced, digest_of, written, first}
 use Rattle.hash.specs.Open.{open_answer, feed_answer, take_answer, take_refusal}
 use Rattle.hash.specs.Form.{form_bytes, form_of, store_refusal, store_answer, restore_answer}
 use Rattle.hash.specs.declared.Hash.{Hash}
-use Rattle.hash.specs.declared.Opened.{Opened}
-use Rattle.hash.specs.declared.Fed.{Fed}
 use Rattle.hash.proofs.Holding.{Value, length_reached}
 use Rattle.hash.proofs.Feeding.{Whole, fed_whole, length_message, bits_message}
 use Rattle.hash_theorems.proofs.Held.{long}

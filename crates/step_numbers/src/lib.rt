@@ -1,8 +1,8 @@
 // The numbers of a step, read off the tables by its round and its number. With a literal step number the reads fold to constants.
 #![tactic(auto)]
 
-ghost use Rattle.std.specs.Prelude.{◌≡◌, ◌+◌, ◌/◌, ◌<◌, min};
-ghost use Rattle.simd.specs.Basic.{small, large};
+ghost use Rattle.std.specs.Prelude.{◌≡◌, ◌+◌, ◌/◌, ◌%◌, ◌<◌, min, bit_xor, refl};
+ghost use Rattle.simd.specs.Basic.{Family, small, large, rows};
 ghost use Rattle.simd.specs.Constants.{exchange};
 ghost use Rattle.simd.specs.Steps.{rotation as rotationOf};
 
@@ -10,10 +10,7 @@ ghost use Rattle.simd.specs.Steps.{rotation as rotationOf};
 fn round_of(i: usize) -> usize
     ensures { (result ≡ min (i / 8) 3) × (result < 4) }
 {
-    if i < 24 {
-        return i / 8;
-    }
-    3
+    (i / 8).min(3)
 }
 
 // Entry k mod 4 of the quadruple of step i.
@@ -24,35 +21,56 @@ pub fn rotation(i: usize, k: usize) -> u32
     q[round_of(i)][k % 4]
 }
 
-// The number by which step i exchanges rows.
-pub fn small_exchange(i: usize) -> usize
-    ensures { result ≡ exchange small i }
+// Entry i + 1 of that quadruple, by which the sum is rotated.
+pub fn sum_rotation(i: usize) -> u32
+    ensures { (result ≡ rotationOf i (i + 1)) × ((0 < result) × (result < 32)) }
 {
-    let e = tables::small_exchanges();
-    e[i % 3]
+    rotation(i, i % 4 + 1)
 }
 
-pub fn large_exchange(i: usize) -> usize
-    ensures { result ≡ exchange large i }
-{
-    let e = tables::large_exchanges();
-    e[i % 7]
+// A family by its rows, of which there are R.
+pub trait Rows<const R: usize> {
+    ghost family: { Family };
+
+    // The number by which step i exchanges rows.
+    fn exchange(i: usize) -> usize
+        ensures { result ≡ exchange family i };
+
+    ghost has_rows: { rows family ≡ R };
 }
 
-// The numbers of step i of 4 rows: the rotation of A, the rotation of the sum, and the row exchange.
-#[derive(Clone, Copy)]
-pub struct StepNumbers {
-    pub r: u32,
-    pub s: u32,
-    pub x: usize,
-}
+pub struct Small;
 
-pub fn numbers(i: usize) -> StepNumbers
-    ensures { (result.r ≡ rotationOf i i) × ((result.s ≡ rotationOf i (i + 1)) × (result.x ≡ exchange small i)) }
-{
-    StepNumbers {
-        r: rotation(i, i),
-        s: rotation(i, i % 4 + 1),
-        x: small_exchange(i),
+pub struct Large;
+
+impl Rows<4> for Small {
+    ghost family = { small };
+
+    ghost has_rows = { refl };
+
+    #[tactic(auto, unfolding(simd::specs::Constants::exchange))]
+    fn exchange(i: usize) -> usize {
+        let e = tables::small_exchanges();
+        e[i % 3]
     }
+}
+
+impl Rows<8> for Large {
+    ghost family = { large };
+
+    ghost has_rows = { refl };
+
+    #[tactic(auto, unfolding(simd::specs::Constants::exchange))]
+    fn exchange(i: usize) -> usize {
+        let e = tables::large_exchanges();
+        e[i % 7]
+    }
+}
+
+// The row that row j of n is exchanged with, by the number x.
+pub fn partner(j: usize, x: usize, n: usize) -> usize
+    requires { 0 < n }
+    ensures { (result ≡ bit_xor j x % n) × (result < n) }
+{
+    (j ^ x) % n
 }

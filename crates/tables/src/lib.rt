@@ -1,6 +1,6 @@
 // The constant tables that several floors read: order P, rotations and row exchanges (sections 1.2.2 and 1.2.3). A constant
 // array is built anew wherever it is named: a loop takes its table once, outside; where every index is a literal the table folds away.
-#![tactic(auto)]
+#![tactic(auto, unfolding(simd::specs::Constants::order, simd::specs::Constants::rotations, simd::specs::Constants::small_exchanges, simd::specs::Constants::large_exchanges))]
 
 ghost use Rattle.std.specs.Prelude.{◌≡◌};
 ghost use Rattle.simd.specs.Constants.{order as orderP, rotations as quadruples, small_exchanges, large_exchanges};
@@ -35,7 +35,8 @@ pub fn rotations() -> [[u32; 4]; 4]
     ROTATIONS
 }
 
-// The numbers by which rows are exchanged: in step i, entry i mod 3 for 4 rows and entry i mod 7 for 8 rows.
+// The numbers by which rows are exchanged: in step i, entry i mod 3 for 4 rows and entry i mod 7 for 8 rows. Two published tables of different
+// length, so two functions: each stands in the type of its array.
 pub fn small_exchanges() -> [usize; 3]
     ensures { result ≡ small_exchanges }
 {

@@ -1,11 +1,11 @@
 -- Laws of whole blocks compressed from a byte string.
 use mathlib.Core.Bool.{true}
-use mathlib.Core.List.{List}
+use mathlib.Core.List.{List, ◌++◌}
 use mathlib.Core.Path.{◌≡◌, refl, sym, ap, ◌∙◌}
 use Prim.Native.Nat.{ℕ, ◌+◌, ◌*◌, ◌<◌}
 use native.Mathlib.Omega.{arith}
-use lib.ListN.{length, get_or, take, drop, length-take}
-use lib.Seq.{take_all}
+use lib.ListN.{length, get_or, take, drop, length-take, length-append}
+use lib.Seq.{take_all, take-append_seam, drop-append_seam}
 use Rattle.simd.specs.Basic.{Family, large, block_bytes, block_bits, state_words}
 use Rattle.simd.specs.Message.{bits_of, byte_of}
 use Rattle.simd.specs.Steps.{compression}
@@ -14,13 +14,20 @@ use Rattle.iteration.specs.Blocks.{absorbed}
 use Rattle.laws.proofs.Table.{table_of}
 use Rattle.laws.proofs.Bits.{byte_bits_of}
 use Rattle.laws.proofs.Chain.{length_compression, byte_drop, chain_ext, chain_add}
-use Rattle.bits.specs.Zero.{padded}
-use Rattle.bits.proofs.Zeros.{length_padded, take_padded}
+use Rattle.bits.specs.Zero.{padded, all_zero}
+use Rattle.bits.proofs.Zeros.{length_padded, take_padded, padded_take}
 use Rattle.tail.proofs.Sizes.{words_within, chain_length}
 
 pub padded_whole : (n : ℕ) (xs : List ℕ) → length xs ≡ n → padded n xs ≡ xs
 unfolding padded
 padded_whole n xs long = sym (table_of 0 n (λ i. get_or xs i 0) xs long (λ i _. refl))
+
+-- The small family's state in the first 16 words, with zeros behind.
+pub widened : (xs zeros : List ℕ) → length xs ≡ 16 → length zeros ≡ 16 → all_zero zeros ≡ true → xs ++ zeros ≡ padded 32 xs
+widened xs zeros size rest-size zero =
+    let front : take 16 (xs ++ zeros) ≡ xs = ap (λ n. take n (xs ++ zeros)) (sym size) ∙ take-append_seam xs zeros in
+    let rest : drop 16 (xs ++ zeros) ≡ zeros = ap (λ n. drop n (xs ++ zeros)) (sym size) ∙ drop-append_seam xs zeros in
+    sym (padded_take 32 16 (xs ++ zeros) (simp length-append (omega arith)) (rw rest zero)) ∙ ap (padded 32) front
 
 -- The large family's state is all 32 words.
 pub whole_absorbed : (s bytes : List ℕ) (k : ℕ) → length s ≡ 32 → padded 32 (absorbed large (take 32 s) bytes k) ≡ absorbed large s bytes k

@@ -10,6 +10,8 @@ ghost use Rattle.simd.specs.Hash.{chain, compressions};
 ghost use Rattle.iteration.specs.Blocks.{absorbed};
 ghost use Rattle.bits.specs.Zero.{padded};
 
+use compression::{Large, Small};
+
 // The bytes of a block, and of a digest.
 pub fn block_bytes(width: u16) -> usize
     ensures { result ≡ block_bytes (family_of width) }
@@ -20,7 +22,7 @@ pub fn block_bytes(width: u16) -> usize
 pub fn digest_bytes(width: u16) -> usize
     ensures { result ≡ digest_bytes width }
 {
-    (width / 8) as usize
+    usize::from(width / 8)
 }
 
 // The full blocks of so many bits.
@@ -50,11 +52,7 @@ fn narrow(state: [u32; 32]) -> [u32; 16]
     ensures { result ≡ take 16 state }
 {
     let mut words = [0u32; 16];
-    let mut i = 0;
-    while i < 16 {
-        words[i] = state[i];
-        i += 1;
-    }
+    words.copy_from_slice(&state[..16]);
     words
 }
 
@@ -62,11 +60,7 @@ pub fn widen(state: [u32; 16]) -> [u32; 32]
     ensures { result ≡ padded 32 state }
 {
     let mut words = [0u32; 32];
-    let mut i = 0;
-    while i < 16 {
-        words[i] = state[i];
-        i += 1;
-    }
+    words[..16].copy_from_slice(&state);
     words
 }
 
@@ -79,11 +73,10 @@ pub fn absorb(width: u16, state: &mut [u32; 32], bytes: &[u8])
 {
     if width <= 256 {
         let mut small = narrow(*state);
-        iteration::small::absorb(&mut small, bytes);
-        let wide = widen(small);
-        *state = wide;
+        iteration::absorb::<Small, 4, 16>(&mut small, bytes);
+        *state = widen(small);
     } else {
-        iteration::large::absorb(state, bytes);
+        iteration::absorb::<Large, 8, 32>(state, bytes);
     }
 }
 
@@ -99,11 +92,10 @@ pub fn conclude(width: u16, state: &mut [u32; 32], bytes: &[u8], count: usize, b
 {
     if width <= 256 {
         let mut small = narrow(*state);
-        iteration::small::conclude(&mut small, bytes, count, bits);
-        let wide = widen(small);
-        *state = wide;
+        iteration::conclude::<Small, 4, 16>(&mut small, bytes, count, bits);
+        *state = widen(small);
     } else {
-        iteration::large::conclude(state, bytes, count, bits);
+        iteration::conclude::<Large, 8, 32>(state, bytes, count, bits);
     }
 }
 

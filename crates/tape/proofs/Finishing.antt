@@ -12,9 +12,8 @@ use lib.ListN.{length, take, drop, length-take}
 use lib.Seq.{length-take-le, take_at}
 use Rattle.simd.specs.Basic.{digest_bytes}
 use Rattle.simd.specs.Hash.{digest}
-use Rattle.hash.specs.Open.{digest_of, take_refusal, taken, take_answer, written}
+use Rattle.hash.specs.Open.{Taken as Answer, digest_of, take_refusal, taken, take_answer, written}
 use Rattle.hash.specs.declared.Hash.{Hash}
-use Rattle.hash.specs.declared.Taken.{Taken as Answer}
 use Rattle.hash.proofs.Digests.{digest_length, digest_bounds}
 use Rattle.hash_theorems.proofs.Theorems.{after_digest}
 use Rattle.text.specs.Text.{over}

@@ -8,6 +8,7 @@ ghost use Rattle.tape.specs.Standing.{Finishes, end_of, close_of};
 
 use hash::Hash;
 use reader::{Command, Reading};
+use refusals::number_of;
 
 // The count of digests, and the refusal's number and place, 0 and 0 where the tape stopped.
 #[derive(Clone, Copy)]
@@ -51,7 +52,7 @@ fn finish(hash: Hash, at: usize, out: &mut [u8]) -> Next
     let mut digest = blank();
     let taken = hash.take(&mut digest[..size]);
     text::put(out, 0, &digest[..size]);
-    if taken.refusal != 0 {
+    if number_of(taken.result) != 0 {
         return Next::Ended(6, at);
     }
     Next::Taken(width, at + 1)

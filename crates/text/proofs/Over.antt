@@ -3,10 +3,9 @@ use mathlib.Core.List.{List, [], ◌∷◌, ◌++◌, append_assoc, append-nil}
 use mathlib.Core.Path.{◌≡◌, sym, ap, ◌∙◌}
 use Prim.Native.Nat.{ℕ, suc, ◌+◌, ◌-◌, ◌≤◌, ◌<◌}
 use native.Mathlib.Nat.{add-zero, zero-add}
-use native.Mathlib.Numerals.{add-one}
 use native.Mathlib.Omega.{arith}
 use lib.ListN.{length, get_or, take, drop, set, length-append, length-drop, take-append-drop}
-use lib.Seq.{length-take-le, take_at, drop-cons, drop-drop, drop-append-add, set_at, append_snoc, take-suc, take_all}
+use lib.Seq.{length-take-le, take_at, drop-cons, drop-drop, drop-append-add, set_at, append_snoc}
 use Rattle.text.specs.Text.{over}
 
 module _ (t : List ℕ) (at : ℕ) where
@@ -65,18 +64,6 @@ module _ (t : List ℕ) (at : ℕ) where
       ap (λ (l : List ℕ). set l (n + 1) w) (over_byte s v n place (omega arith))
       ∙ over_byte (s ++ (v ∷ [])) w (n + 1) (omega arith) fits
       ∙ ap (over t at) (append_assoc s (v ∷ []) (w ∷ []))
-
-  -- A string is copied byte by byte.
-  pub over_more :
-      (s : List ℕ) (i : ℕ) → i < length s → at + length s ≤ length t
-      → set (over t at (take i s)) (at + i) (get_or s i 0) ≡ over t at (take (i + 1) s)
-  over_more s i here fits =
-      let size : length (take i s) ≡ i = length-take-le i s (omega arith) in
-      over_byte (take i s) (get_or s i 0) (at + i) (omega arith) (omega arith)
-      ∙ ap (over t at) (sym (ap (λ (k : ℕ). take k s) (add-one i) ∙ take-suc s i 0 here))
-
-  pub over_all : (s : List ℕ) (i : ℕ) → length s ≤ i → over t at (take i s) ≡ over t at s
-  over_all s i all = ap (over t at) (take_all i s all)
 
 -- What is written from the start of a buffer, string after string.
 pub record Wrote (t s x : List ℕ) (m : ℕ) : Type 0 where

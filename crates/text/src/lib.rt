@@ -1,4 +1,6 @@
 // Numbers and bytes as text, written into a lent text. Each writes at a place and answers the place after.
+// Text and place stay two parameters: a cursor that holds both must be lent for each line too, and every clause would say `line.text` and `line.at`
+// where it now says `text` and `at`.
 #![tactic(auto)]
 
 ghost use Rattle.std.specs.Prelude.{◌≡◌, [], ◌∷◌, ◌++◌, ◌+◌, ◌*◌, ◌≤◌, ◌<◌, length};
@@ -8,12 +10,9 @@ pub fn put(text: &mut [u8], at: usize, s: &[u8]) -> usize
     requires { at + length s.now ≤ length text.old }
     ensures { (text.new ≡ over text.old at s.now) × (result ≡ at + length s.now) }
 {
-    let mut i = 0;
-    while i < s.len() {
-        text[at + i] = s[i];
-        i += 1;
-    }
-    at + i
+    let end = at + s.len();
+    text[at..end].copy_from_slice(s);
+    end
 }
 
 // A number and the byte after it.
@@ -47,7 +46,7 @@ pub fn digit(d: u64) -> u8
     requires { d < 10 }
     ensures { result ≡ 48 + d }
 {
-    48 + d as u8
+    b'0' + d as u8
 }
 
 // Bytes in hexadecimal and the byte after them.
@@ -56,39 +55,32 @@ pub fn hex(text: &mut [u8], at: usize, bytes: &[u8], end: u8) -> usize
     ensures { (text.new ≡ over text.old at (hexOf bytes.now ++ (end ∷ [])))
         × (result ≡ at + length (hexOf bytes.now ++ (end ∷ []))) × (result ≡ at + 2 * length bytes.now + 1) }
 {
-    let mut i = 0;
-    while i < bytes.len() {
-        let b = bytes[i];
+    for (i, b) in bytes.iter().enumerate() {
         text[at + 2 * i] = glyph(b / 16);
         text[at + 2 * i + 1] = glyph(b % 16);
-        i += 1;
     }
-    text[at + 2 * i] = end;
-    at + 2 * i + 1
+    let next = at + 2 * bytes.len();
+    text[next] = end;
+    next + 1
 }
 
+#[tactic(auto, unfolding(crate::specs::Text::glyph))]
 fn glyph(d: u8) -> u8
     requires { d < 16 }
     ensures { result ≡ glyphOf d }
 {
-    if d < 10 { 48 + d } else { 87 + d }
+    if d < 10 { b'0' + d } else { b'a' - 10 + d }
 }
 
-// The value of a hexadecimal digit in lower case; 16 for any other character.
+// The value of a hexadecimal digit in lower case; 16 for any other character, and no Option: its clause and the definition `digit_of` say 16, so that
+// a digit below k is a character whose value is below k.
+#[tactic(auto, unfolding(crate::specs::Text::digit_of))]
 pub fn digit_of(c: u8) -> u64
     ensures { (result ≡ digit_of c) × (result ≤ 16) }
 {
-    if c < 48 {
-        return 16;
+    match c {
+        b'0'..=b'9' => u64::from(c - b'0'),
+        b'a'..=b'f' => u64::from(c - b'a') + 10,
+        _ => 16,
     }
-    if c <= 57 {
-        return c as u64 - 48;
-    }
-    if c < 97 {
-        return 16;
-    }
-    if c <= 102 {
-        return c as u64 - 87;
-    }
-    16
 }

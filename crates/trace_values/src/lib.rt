@@ -26,8 +26,8 @@ pub fn matrix_words(width: u16, last: bool, block: &[u8], out: &mut [u32])
     let mut y = [0u16; 256];
     values(width, last, block, &mut y);
     if width <= 256 {
-        expansion::output::put_small(matrix::matrix_small(&y[..128]), out);
+        expansion::output::put(&matrix::matrix_small(&y[..128]), out);
         return;
     }
-    expansion::output::put_large(matrix::matrix_large(&y[..256]), out);
+    expansion::output::put(&matrix::matrix_large(&y[..256]), out);
 }

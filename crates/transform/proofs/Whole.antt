@@ -12,13 +12,9 @@ use Rattle.simd.specs.Constants.{root}
 use Rattle.simd.specs.Expansion.{power, added, transform}
 use Rattle.laws.proofs.Sum.{sum_ext, sum_zero, sum_plus, sum_append}
 use Rattle.laws.proofs.Table.{table_of}
-use Rattle.transform_stages.specs.Stage.{part, Level, Within, Leads, Shuffled}
+use Rattle.transform_stages.specs.Stage.{part, Level, Within, Leads, Spreads, Shuffled}
 use Rattle.radix_8.specs.Pass.{appended, held}
 use Rattle.transform.proofs.Added.{ends_sum, held_numbers}
-
--- The bounds that a stage asks.
-pub loosened : (n low high : ℕ) (x : List ℕ) → Within n low high x → 512 ≤ low → high ≤ 60000 → Within n 512 60000 x
-loosened n low high x within from to i h = let here = within i h in (omega arith, omega arith)
 
 module _ {half : ℕ} {x y : List ℕ} (turns : Shuffled half half x y) where
   shuffled_at : (i s : ℕ) → i < half → s < 2 → get_or y (2 * i + s) 0 ≡ get_or x (i + half * s) 0
@@ -27,7 +23,7 @@ module _ {half : ℕ} {x y : List ℕ} (turns : Shuffled half half x y) where
   shuffled_at i (suc (suc s)) hi hs = absurd (omega arith)
 
   -- A shuffle keeps bounds.
-  pub shuffled_within : (low high : ℕ) → Within (2 * half) low high x → Within (2 * half) low high y
+  shuffled_within : (low high : ℕ) → Within (2 * half) low high x → Within (2 * half) low high y
   shuffled_within low high before i h =
       elim (ℕ_discrete (i % 2) 0) [
         | yes even ↦
@@ -43,6 +39,45 @@ module _ {half : ℕ} {x y : List ℕ} (turns : Shuffled half half x y) where
             let from = before (half + i / 2) (omega arith) in
             (omega arith, omega arith)
       ]
+
+-- The bounds that a stage asks: three shuffles keep those of the first pass, and each stage widens them by 512.
+module _ {half : ℕ} {x y z w : List ℕ} (first : Within (2 * half) 2570 45000 x) (xy : Shuffled half half x y) (yz : Shuffled half half y z)
+    (zw : Shuffled half half z w) where
+  abbrev n : ℕ
+  n = 2 * half
+
+  loosened : (low high : ℕ) (x : List ℕ) → Within n low high x → 512 ≤ low → high ≤ 60000 → Within (2 * half) 512 60000 x
+  loosened low high x within from to i h = let here = within i h in (omega arith, omega arith)
+
+  begun : Within n 2570 45000 w
+  begun = shuffled_within zw 2570 45000 (shuffled_within yz 2570 45000 (shuffled_within xy 2570 45000 first))
+
+  pub bounds_8 : Within (2 * half) 512 60000 w
+  bounds_8 = loosened 2570 45000 w begun (omega arith) (omega arith)
+
+  module _ {x₁₆ : List ℕ} (eight : Spreads n w x₁₆) where
+    within_16 : Within n 2058 45512 x₁₆
+    within_16 = eight.within 2058 45000 begun
+
+    pub bounds_16 : Within (2 * half) 512 60000 x₁₆
+    bounds_16 = loosened 2058 45512 x₁₆ within_16 (omega arith) (omega arith)
+
+    module _ {x₃₂ : List ℕ} (sixteen : Spreads n x₁₆ x₃₂) where
+      within_32 : Within n 1546 46024 x₃₂
+      within_32 = sixteen.within 1546 45512 within_16
+
+      pub bounds_32 : Within (2 * half) 512 60000 x₃₂
+      bounds_32 = loosened 1546 46024 x₃₂ within_32 (omega arith) (omega arith)
+
+      module _ {x₆₄ : List ℕ} (more : Spreads n x₃₂ x₆₄) where
+        within_64 : Within n 1034 46536 x₆₄
+        within_64 = more.within 1034 46024 within_32
+
+        pub bounds_64 : Within (2 * half) 512 60000 x₆₄
+        bounds_64 = loosened 1034 46536 x₆₄ within_64 (omega arith) (omega arith)
+
+        pub bounds_128 : {x₁₂₈ : List ℕ} → Spreads n x₆₄ x₁₂₈ → Within (2 * half) 512 60000 x₁₂₈
+        bounds_128 {x₁₂₈} most = loosened 522 47048 x₁₂₈ (most.within 522 46536 within_64) (omega arith) (omega arith)
 
 -- Three times: the eight values of a place come side by side.
 module _ (m half : ℕ) (whole : half ≡ 4 * m) {x y z w : List ℕ} (xy : Shuffled half half x y) (yz : Shuffled half half y z) (zw : Shuffled half half z w) where

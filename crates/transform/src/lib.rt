@@ -34,7 +34,8 @@ pub fn small(block: &[u8], roots: &[u16; 512], out: &mut [u16], last: bool)
     finish(&y, out, 128);
 }
 
-// The same for a block of the large family.
+// The same for a block of the large family. Two functions, since the lengths of the arrays stand in their types: one would take them as two const
+// parameters, with clauses that bind them to the family, and branch for the stage that only this one has.
 pub fn large(block: &[u8], roots: &[u16; 512], out: &mut [u16], last: bool)
     requires block_len { (length block.now ≡ 128) × (length out.old ≡ 256) }
     requires roots { Roots roots.now }

@@ -1,4 +1,3 @@
 pub mod Level
-pub mod Parts
 pub mod Reduction
 pub mod Stages

@@ -55,9 +55,6 @@ before_run b i n l q r q' r' eb ei hr hn below =
     ]
 
 module _ (x t : List ℕ) (l half : ℕ) where
-  pub crossed_none : (y : List ℕ) → Crossed l half 0 x t y
-  crossed_none y = record { here = λ b h. absurd (omega arith) }
-
   -- A run of n butterflies from i on, all of one place.
   module _ (i n : ℕ) (run : i % l + n ≤ l) where
     abbrev row : ℕ

@@ -12,10 +12,10 @@ fn product(f: u16, g: u16, y: u16, modulus: u16) -> u16
     requires { (f < 257) × (g ≡ 255 * f) × (modulus ≡ 257) }
     ensures { (result ≤ 512) × (result % 257 ≡ f * y % 257) }
 {
-    let q = (g as u32) * (y as u32) / 65536;
-    let p = ((f as u32) * (y as u32) % 65536) as u16;
-    let m = (q * (modulus as u32) % 65536) as u16;
-    std::num::wrapping_sub_u16(p, m)
+    let q = u32::from(g) * u32::from(y) / 65536;
+    let p = (u32::from(f) * u32::from(y) % 65536) as u16;
+    let m = (q * u32::from(modulus) % 65536) as u16;
+    p.wrapping_sub(m)
 }
 
 // n butterflies of one place, from value `from` on: the neighbouring numbers of x from i and from i + gap on give those of y from j and from j + l
@@ -39,14 +39,12 @@ fn butterflies(
     ensures by_index_3 { (p : ℕ) → (j ≤ p → j + n ≤ p) → (j + l ≤ p → j + l + n ≤ p) → slice_index y.new p ≡ slice_index y.old p }
 {
     let modulus = t[0];
-    let mut k = 0;
-    while k < n {
+    for k in 0..n {
         let at = l + from + k;
         let a = x[i + k];
         let b = product(t[at], t[256 + at], x[i + gap + k], modulus);
         y[j + k] = a + b;
         y[j + l + k] = a - b;
-        k += 1;
     }
 }
 
@@ -56,12 +54,10 @@ fn more_shuffled(x: &[u16], y: &mut [u16], half: usize, at: usize)
     requires shuffled { Shuffled half at x.now y.old }
     ensures { Shuffled half (at + 64) x.now y.new }
 {
-    let mut k = 0;
-    while k < 64 {
+    for k in 0..64 {
         let i = at + k;
         y[2 * i] = x[i];
         y[2 * i + 1] = x[half + i];
-        k += 1;
     }
 }
 
@@ -70,10 +66,8 @@ pub fn shuffle(x: &[u16], y: &mut [u16], half: usize)
     requires { (length x.now ≡ 2 * half) × (length y.old ≡ 2 * half) × (half % 64 ≡ 0) }
     ensures { Shuffled half half x.now y.new }
 {
-    let mut at = 0;
-    while at < half {
+    for at in (0..half).step_by(64) {
         more_shuffled(x, y, half, at);
-        at += 64;
     }
 }
 
@@ -84,13 +78,10 @@ fn more_rows(x: &[u16], y: &mut [u16], t: &[u16], l: usize, n: usize, half: usiz
     requires crossed { Crossed l half at x.now t.now y.old }
     ensures { Crossed l half (at + 64) x.now t.now y.new }
 {
-    let runs = 64 / n;
-    let mut r = 0;
-    while r < runs {
+    for r in 0..64 / n {
         let i = at + r * n;
         let q = i / l;
         butterflies(x, y, t, i, half, i + q * l, l, i - q * l, n);
-        r += 1;
     }
 }
 
@@ -103,10 +94,8 @@ pub fn rows(x: &[u16], y: &mut [u16], t: &[u16], l: usize, n: usize, half: usize
     ensures leads { Leads l (half / l) x.now y.new }
     ensures spreads { Spreads (2 * half) x.now y.new }
 {
-    let mut at = 0;
-    while at < half {
+    for at in (0..half).step_by(64) {
         more_rows(x, y, t, l, n, half, at);
-        at += 64;
     }
 }
 
@@ -115,11 +104,9 @@ fn more_finished(x: &[u16], out: &mut [u16], at: usize)
     requires { (at + 128 ≤ length x.now) × (length out.old ≡ length x.now) × Begun at x.now out.old }
     ensures { Begun (at + 128) x.now out.new }
 {
-    let mut k = 0;
-    while k < 128 {
+    for k in 0..128 {
         let i = at + k;
         out[i] = x[i] % 257;
-        k += 1;
     }
 }
 
@@ -128,9 +115,7 @@ pub fn finish(x: &[u16], out: &mut [u16], n: usize)
     requires { (length x.now ≡ n) × (length out.old ≡ n) × (n % 128 ≡ 0) }
     ensures { (i : ℕ) → i < n → slice_index out.new i ≡ slice_index x.now i % 257 }
 {
-    let mut at = 0;
-    while at < n {
+    for at in (0..n).step_by(128) {
         more_finished(x, out, at);
-        at += 128;
     }
 }

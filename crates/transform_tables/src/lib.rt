@@ -40,12 +40,10 @@ fn row(powers: &[u16; 256], t: &mut [u16], at: usize, first: usize, step: usize,
     requires by_index { ((k : ℕ) → k < n → (first + step * k < 256) × (exponent 7 (at + k) ≡ first + step * k)) × Begun t.old (at + n) }
     ensures { Begun t.new at }
 {
-    let mut k = 0;
-    while k < n {
+    for k in 0..n {
         let v = powers[first + step * k];
         t[at + k] = v;
         t[256 + at + k] = 255 * v;
-        k += 1;
     }
 }
 

@@ -5,12 +5,14 @@ ghost use Rattle.std.specs.Prelude.{◌≡◌, ◌%◌, ◌<◌, length, bit_xor
 ghost use Rattle.simd.specs.Basic.{table};
 ghost use Rattle.unstep_rows.specs.Rows.{sub, rotr, word_a, word_d};
 
+use step_numbers::partner;
 use words::{chosen, rotate};
 
+#[tactic(auto, unfolding(crate::specs::Rows::sub))]
 fn difference(x: u32, y: u32) -> u32
     ensures { result ≡ sub x y }
 {
-    std::num::wrapping_sub_u32(x, y)
+    x.wrapping_sub(y)
 }
 
 fn unrotate(x: u32, r: u32) -> u32
@@ -28,23 +30,13 @@ fn unmix(a: u32, b: u32, w: u32, f: u32, s: u32) -> u32
     difference(difference(unrotate(difference(a, b), s), f), w)
 }
 
-// The row that row j of n is exchanged with.
-fn partner(j: usize, x: usize, n: usize) -> usize
-    requires { 0 < n }
-    ensures { (result ≡ bit_xor j x % n) × (result < n) }
-{
-    (j ^ x) % n
-}
-
 // A before a step from B after it, by the rotation r.
 pub fn unrotate_rows(b: &[u32], r: u32, out: &mut [u32])
     requires { ((0 < r) × (r < 32)) × (length b.now ≡ length out.old) }
     ensures { out.new ≡ table (length out.old) (word_a r b.now) }
 {
-    let mut j = 0;
-    while j < out.len() {
+    for j in 0..out.len() {
         out[j] = unrotate(b[j], r);
-        j += 1;
     }
 }
 
@@ -68,11 +60,9 @@ pub fn unmix_rows(
         (word_d (length out.old) i s x
         a.now b.now c.now d.now old.now w.now) }
 {
-    let mut j = 0;
-    while j < out.len() {
+    for j in 0..out.len() {
         let y = partner(j, x, out.len());
         let f = chosen(i, old[j], c[j], d[j]);
         out[j] = unmix(a[j], b[y], w[j], f, s);
-        j += 1;
     }
 }

@@ -2,14 +2,12 @@
 -- and so no two starts reach one end.
 use mathlib.Core.List.{List, []}
 use mathlib.Core.Path.{◌≡◌, refl, sym, ap, ◌∙◌, subst}
-use Prim.Native.Nat.{ℕ, zero, suc, ◌+◌, ◌-◌, ◌%◌, ◌^◌, ◌<◌}
+use Prim.Native.Nat.{ℕ, zero, suc, ◌+◌, ◌-◌, ◌^◌, ◌<◌}
 use native.Mathlib.Omega.{arith}
-use native.Mathlib.Decide.{dec_lt}
-use lib.Dec.{lit<}
-use lib.ListN.{length, get_or, get_or-eq_default}
+use lib.ListN.{get_or}
 use Rattle.simd.specs.Basic.{Family, rows, table}
-use Rattle.simd.specs.Steps.{State, add, rotl, IF, MAJ, choose, rotation, partner, step, steps}
-use Rattle.laws.proofs.Table.{length_table, get_d_table, table_of, table_ext}
+use Rattle.simd.specs.Steps.{State, add, rotl, choose, rotation, partner, step, steps}
+use Rattle.laws.proofs.Table.{length_table, get_d_table, table_of}
 use Rattle.laws.proofs.Words.{add_lt, rotl_lt, rotl_back, rotl_forth}
 use Rattle.words.proofs.Exchanges.{partner_lt}
 use Rattle.words.proofs.Rotations.{rotation_above, rotation_below}

@@ -1,8 +1,8 @@
 -- A step on an array of columns is the step of the definition.
-use Rattle.std.proofs.Common.{◌≡◌, ℕ, ◌+◌, ◌/◌, ◌%◌, min, List, [], ◌∷◌, get_or, ap, ◌∙◌, mod-eq_of_lt}
+use Rattle.std.proofs.Common.{◌≡◌, ℕ, ◌+◌, List, [], ◌∷◌, get_or, ap, ◌∙◌, mod-eq_of_lt}
 use Rattle.simd.specs.Basic.{Family, rows, table}
 use Rattle.simd.specs.Constants.{exchange}
-use Rattle.simd.specs.Steps.{State, add, rotl, choose, rotation, partner, step}
+use Rattle.simd.specs.Steps.{add, rotl, choose, rotation, partner, step}
 use Rattle.laws.proofs.Table.{table_ext, get_d_table}
 use Rattle.words.specs.Columns.{from_columns, columns, new_b, new_a, stepped}
 use Rattle.words.proofs.Exchanges.{partner_lt, partner_code}

@@ -1,5 +1,5 @@
 -- Row exchanges keep within the rows.
-use Rattle.std.proofs.Common.{◌≡◌, ℕ, ◌%◌, ◌<◌, ltb, get_or, mod-lt, mod-eq_of_lt, lit<, ltb→lt}
+use Rattle.std.proofs.Common.{◌≡◌, ℕ, ◌%◌, ◌<◌, ltb, mod-lt, mod-eq_of_lt, lit<, ltb→lt}
 use lib.Bits.{bit_xor, xor_lt}
 use Rattle.simd.specs.Basic.{Family, small, large, rows}
 use Rattle.simd.specs.Constants.{small_exchanges, large_exchanges, exchange}

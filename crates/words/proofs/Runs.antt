@@ -1,21 +1,22 @@
 -- Runs of steps by their numbers are the steps of the definition.
 use Rattle.std.proofs.Common.{◌≡◌, ℕ, zero, suc, ◌+◌, List, [], get_or, sym, refl, ap, ◌∙◌, add-zero, add-suc}
 use Rattle.simd.specs.Basic.{Family}
-use Rattle.simd.specs.Steps.{step, steps}
+use Rattle.simd.specs.Steps.{steps}
 use Rattle.words.specs.Columns.{columns, from_columns, new_a, stepped}
 use Rattle.words.specs.Runs.{run, last_steps}
 use Rattle.words.proofs.Columns.{stepped_step}
 
 -- Eight steps one after the other.
 pub eight : (f : Family) (w : List (List ℕ)) (i : ℕ) (l : List (List ℕ)) {s₁ s₂ s₃ s₄ s₅ s₆ s₇ s₈ : List (List ℕ)} →
-    s₁ ≡ stepped f (i + 0) (get_or w (i + 0) []) l → s₂ ≡ stepped f (i + 1) (get_or w (i + 1) []) s₁ →
+    s₁ ≡ stepped f i (get_or w i []) l → s₂ ≡ stepped f (i + 1) (get_or w (i + 1) []) s₁ →
     s₃ ≡ stepped f (i + 2) (get_or w (i + 2) []) s₂ → s₄ ≡ stepped f (i + 3) (get_or w (i + 3) []) s₃ →
     s₅ ≡ stepped f (i + 4) (get_or w (i + 4) []) s₄ → s₆ ≡ stepped f (i + 5) (get_or w (i + 5) []) s₅ →
     s₇ ≡ stepped f (i + 6) (get_or w (i + 6) []) s₆ → s₈ ≡ stepped f (i + 7) (get_or w (i + 7) []) s₇ → s₈ ≡ run f w i 8 l
 unfolding run
 eight f w i l e₁ e₂ e₃ e₄ e₅ e₆ e₇ e₈ =
     let at : ℕ → List (List ℕ) → List (List ℕ) = λ k s. stepped f (i + k) (get_or w (i + k) []) s in
-    let r₂ = e₂ ∙ ap (at 1) e₁ in
+    let r₁ = e₁ ∙ ap (λ k. stepped f k (get_or w k []) l) (sym (add-zero i)) in
+    let r₂ = e₂ ∙ ap (at 1) r₁ in
     let r₃ = e₃ ∙ ap (at 2) r₂ in
     let r₄ = e₄ ∙ ap (at 3) r₃ in
     let r₅ = e₅ ∙ ap (at 4) r₄ in

@@ -4,18 +4,11 @@
 ghost use Rattle.std.specs.Prelude.{◌≡◌, ◌-◌, ◌*◌, ◌/◌, ◌%◌, ◌^◌};
 ghost use Rattle.simd.specs.Steps.{add, rotl, IF, MAJ, choose};
 
-fn sum(x: u32, y: u32) -> u32
-    ensures { result ≡ add x y }
-{
-    std::num::wrapping_add_u32(x, y)
-}
-
 // Rotation to the left by r mod 32.
 pub fn rotate(x: u32, r: u32) -> u32
     ensures { result ≡ rotl (r % 32) x }
 {
-    let k = r % 32;
-    (x << k) | (x >> ((32 - k) % 32))
+    x.rotate_left(r)
 }
 
 // The two parts of that rotation: what stays in the word, and what leaves it at the top.
@@ -31,27 +24,32 @@ fn right(x: u32, r: u32) -> u32
     (x >> 1) >> (31 - r % 32)
 }
 
-// The rotation from these parts: where the left part is wanted too, it is made once.
-pub fn turn(x: u32, r: u32) -> u32
+// The rotation from these parts. Where the left part h is wanted too, it is made once.
+// Tried: `x.rotate_left(r)`; then the steps aren't vector code: 2,702 and 5,943 instructions a compression for 742 and 1,490.
+pub fn turned(h: u32, x: u32, r: u32) -> u32
+    requires { h ≡ x * 2 ^ (r % 32) % 2 ^ 32 }
     ensures { result ≡ rotl (r % 32) x }
 {
-    let h = left(x, r);
     h | right(x, r)
 }
 
 // A rotation plus a word, part by part: SSE2 has no rotation.
+// Tried: `m.rotate_left(s).wrapping_add(t)`; 2,364 and 5,618 instructions a compression for 742 and 1,490.
+#[tactic(auto, unfolding(simd::specs::Steps::add, simd::specs::Steps::rotl))]
 pub fn rotated_plus(m: u32, s: u32, t: u32) -> u32
     ensures { result ≡ add (rotl (s % 32) m) t }
 {
-    sum(sum(left(m, s), t), right(m, s))
+    left(m, s).wrapping_add(t).wrapping_add(right(m, s))
 }
 
+#[tactic(auto, unfolding(simd::specs::Steps::IF))]
 fn choice(a: u32, b: u32, c: u32) -> u32
     ensures { result ≡ IF a b c }
 {
     (a & b) | (!a & c)
 }
 
+#[tactic(auto, unfolding(simd::specs::Steps::MAJ))]
 fn majority(a: u32, b: u32, c: u32) -> u32
     ensures { result ≡ MAJ a b c }
 {
@@ -59,6 +57,7 @@ fn majority(a: u32, b: u32, c: u32) -> u32
 }
 
 // The Boolean function of step i.
+#[tactic(auto, unfolding(simd::specs::Steps::choose))]
 pub fn chosen(i: usize, a: u32, b: u32, c: u32) -> u32
     ensures { result ≡ choose i a b c }
 {
@@ -70,8 +69,9 @@ pub fn chosen(i: usize, a: u32, b: u32, c: u32) -> u32
 }
 
 // The sum of D, the word and the Boolean function of step i.
+#[tactic(auto, unfolding(simd::specs::Steps::add))]
 pub fn step_sum(i: usize, a: u32, b: u32, c: u32, d: u32, w: u32) -> u32
     ensures { result ≡ add (add d w) (choose i a b c) }
 {
-    sum(sum(d, w), chosen(i, a, b, c))
+    d.wrapping_add(w).wrapping_add(chosen(i, a, b, c))
 }

@@ -1,0 +1,6 @@
+use Rattle.std.proofs.Common.{arith}
+use Rattle.laws.proofs.Fill.{filled_all}
+use Rattle.unstep_rows.proofs.unmix_rows.Goals as goal
+
+pub returns : goal.returns
+returns c = filled_all c.loop-j.invariant (omega arith)
