@@ -15,12 +15,15 @@ pub const HEAD_BYTES: usize = 2 + LENGTH_BYTES;
 // The bytes of an old head, whose bit length has 4.
 pub const OLD_HEAD_BYTES: usize = 6;
 
-// Writes the first bytes of a source, as many as the buffer takes.
+// Writes the first bytes of a source, as many as the buffer takes. Byte by byte: between two buffers of a caller `copy_from_slice` becomes memmove,
+// and the library asks for memcpy and memset alone.
 pub fn write_bytes(out: &mut [u8], src: &[u8])
     requires { length out.old ≤ length src.now }
     ensures { out.new ≡ take (length out.old) src.now }
 {
-    out.copy_from_slice(&src[..out.len()]);
+    for i in 0..out.len() {
+        out[i] = src[i];
+    }
 }
 
 // Writes a head.

@@ -95,17 +95,6 @@ pub fn index(
     Ok(())
 }
 
-// Writes the first bytes of a source, as many as the buffer takes. Byte by byte: between two buffers of a caller `copy_from_slice` becomes memmove,
-// and the library asks for memcpy and memset alone.
-fn write_bytes(out: &mut [u8], src: &[u8])
-    requires { length out.old ≤ length src.now }
-    ensures { out.new ≡ take (length out.old) src.now }
-{
-    for i in 0..out.len() {
-        out[i] = src[i];
-    }
-}
-
 // The run of a correction that is not refused.
 fn corrected(
     width: u16,
@@ -126,7 +115,7 @@ fn corrected(
     let state = index_parts::start_state(width, count, old, block);
     let middle = form::HEAD_BYTES + tail::block_bytes(width) * i;
     let end = index_parts::index_bytes(width, count);
-    write_bytes(&mut index[0..middle], old);
+    form::write_bytes(&mut index[0..middle], old);
     *blocks = finish(
         width,
         state,

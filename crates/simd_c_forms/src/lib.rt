@@ -4,7 +4,7 @@
 ghost use Rattle.std.specs.Prelude.{◌≡◌};
 ghost use Rattle.refusals.specs.Numbers.{number_of};
 ghost use Rattle.hash.specs.Open.{take_answer, digest_of, written};
-ghost use Rattle.hash.specs.Form.{form_of, restore_answer};
+ghost use Rattle.hash.specs.Form.{form_of, store_refusal, store_answer, stored_by, restore_answer};
 ghost use Rattle.simd_c_forms.specs.Calls.{stored, opened_hash, open_call, fed_from, feed_call, restore_call, take_call};
 
 use hash::Hash;
@@ -33,13 +33,22 @@ pub fn feed_form(form: &mut [u8], piece: &[u8], bits: u64, blocks: &mut u64) -> 
     Ok(())
 }
 
+// What `Hash::write_form` does, not in line: there it would take a third more stack of the call, for copies of the hash's arrays.
+#[inline(never)]
+fn write(hash: &Hash, out: &mut [u8]) -> Result<(), Refusal>
+    ensures { (stored_by hash.now result ≡ store_answer hash.now out.old)
+        × (out.new ≡ written (store_refusal hash.now out.old) (form_of hash.now) out.old) }
+{
+    hash.write_form(out)
+}
+
 // A form, of today's size or the old one, restored and stored in another place.
 pub fn restore_form(given: &[u8], out: &mut [u8]) -> Result<(), Refusal>
     ensures value { number_of result ≡ restore_call given.now out.old }
     ensures out_after { out.new ≡ written (restore_call given.now out.old)
         (form_of (restore_answer given.now).hash) out.old }
 {
-    Hash::of_form(given)?.write_form(out)
+    write(&Hash::of_form(given)?, out)
 }
 
 // A form restored and taken.

@@ -1,4 +1,4 @@
-// A step, of 4 or of 8 rows. With a literal step number every read of the tables folds to a constant.
+// A step, of 4 or of 8 rows, in two parts: new B, and the state from it. With a literal step number every read of the tables folds to a constant.
 // Every step stores the shifted A in its row of `unread`. Nothing reads it: it is there because rows that are stored whole are
 // kept in vector registers; without it the steps are compiled word by word and take three times as long.
 #![tactic(auto)]
@@ -9,7 +9,7 @@ ghost use Rattle.simd.specs.Steps.{rotation as rotationOf};
 ghost use Rattle.words.specs.Columns.{new_b, word_a, new_a, stepped};
 
 use step_numbers::{Rows, partner, rotation, sum_rotation};
-use words::{left, rotated_plus, step_sum, turned};
+use words::{left, rotated_plus, step_sum};
 
 // Word j of new A in step i from new B. The word of B is read first: so the rows are compiled as vectors.
 fn row<F: Rows<R>, const R: usize>(
@@ -51,7 +51,7 @@ fn rotated<F: Rows<R>, const R: usize>(h: [u32; R], a: [u32; R], r: u32) -> [u32
 {
     let mut b = [0u32; R];
     for j in 0..R {
-        b[j] = turned(h[j], a[j], r);
+        b[j] = words::turned(h[j], a[j], r);
     }
     b
 }
@@ -75,6 +75,38 @@ fn new_a<F: Rows<R>, const R: usize>(
     a
 }
 
+// New B in step i.
+#[inline(always)]
+pub fn turned<F: Rows<R>, const R: usize>(
+    st: [[u32; R]; 4],
+    i: usize,
+    unread: &mut [[u32; R]; 36],
+) -> [u32; R]
+    ensures { result ≡ new_b F.family (rotationOf i i) (get_or st.entry 0 []) }
+{
+    let r = rotation(i, i);
+    let h = shifted(st[0], r);
+    unread[i % 36] = h;
+    rotated::<F, R>(h, st[0], r)
+}
+
+// The state after step i from new B.
+#[inline(always)]
+pub fn mixed<F: Rows<R>, const R: usize>(
+    st: [[u32; R]; 4],
+    w: &[u32; R],
+    b: [u32; R],
+    i: usize,
+) -> [[u32; R]; 4]
+    requires { b ≡ new_b F.family (rotationOf i i) (get_or st 0 []) }
+    ensures { result ≡ stepped F.family i w.now st.entry }
+{
+    let a = new_a::<F, R>(&st, w, &b, sum_rotation(i), F::exchange(i), i);
+    let c = st[1];
+    let d = st[2];
+    [a, b, c, d]
+}
+
 // Step i.
 #[inline(always)]
 pub fn step<F: Rows<R>, const R: usize>(
@@ -85,12 +117,6 @@ pub fn step<F: Rows<R>, const R: usize>(
 ) -> [[u32; R]; 4]
     ensures { result ≡ stepped F.family i w.now st.entry }
 {
-    let r = rotation(i, i);
-    let h = shifted(st[0], r);
-    unread[i % 36] = h;
-    let b = rotated::<F, R>(h, st[0], r);
-    let a = new_a::<F, R>(&st, w, &b, sum_rotation(i), F::exchange(i), i);
-    let c = st[1];
-    let d = st[2];
-    [a, b, c, d]
+    let b = turned::<F, R>(st, i, unread);
+    mixed::<F, R>(st, w, b, i)
 }

@@ -17,5 +17,5 @@ returns-in_err-of_form-clause-out_after c = (opened_refused c.args.out.now _ c.i
 pub returns : goal.returns
 unfolding restore_call
 returns c =
-    let told = opened_stored c.args.out.now c.in_ok-of_form.ensures c.write_form.ensures.0 c.write_form.ensures.1 in
+    let told = opened_stored c.args.out.now c.in_ok-of_form.ensures c.write.ensures.0 c.write.ensures.1 in
     record { value = told.0; out_after = told.1 }

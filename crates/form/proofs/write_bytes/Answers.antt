@@ -3,7 +3,7 @@ use mathlib.Core.Path.{refl, sym, ◌∙◌}
 use native.Mathlib.Omega.{arith}
 use lib.ListN.{length, get_or}
 use Rattle.bits.proofs.Filling.{filled_none, filled_more, filled_all, take_table}
-use Rattle.index.proofs.write_bytes.Goals as goal
+use Rattle.form.proofs.write_bytes.Goals as goal
 
 pub loop-i-init : goal.loop-i-init
 loop-i-init c = filled_none (length c.args.out.now) (λ k. get_or c.args.src.now k 0) c.args.out.now refl
